@@ -1,0 +1,226 @@
+// The same as the program book, in plain Rust, to compare its speed with: reads a book and acts from standard input, prints the book after them.
+// With the argument `input N` it prints an input with N acts instead, all of which may be done.
+use std::io::{Read, Write};
+
+#[derive(Clone, Copy, Default)]
+struct Set([u64; 4]);
+
+impl Set {
+    fn has(&self, v: u8) -> bool {
+        self.0[v as usize / 64] >> (v % 64) & 1 == 1
+    }
+    fn put(&mut self, v: u8) {
+        self.0[v as usize / 64] |= 1 << (v % 64);
+    }
+    fn cut(&mut self, v: u8) {
+        self.0[v as usize / 64] &= !(1 << (v % 64));
+    }
+    fn len(&self) -> usize {
+        self.0.iter().map(|w| w.count_ones() as usize).sum()
+    }
+}
+
+struct Graph {
+    size: u8,
+    subjects: Set,
+    rows: Vec<Set>,
+}
+
+type Fault = (u8, usize);
+
+fn byte(b: &[u8], at: &mut usize) -> Result<u8, Fault> {
+    let x = *b.get(*at).ok_or((1, b.len()))?;
+    *at += 1;
+    Ok(x)
+}
+
+fn below(b: &[u8], at: &mut usize, bound: u8) -> Result<u8, Fault> {
+    let x = byte(b, at)?;
+    if x < bound { Ok(x) } else { Err((2, *at - 1)) }
+}
+
+fn read_book(b: &[u8], at: &mut usize) -> Result<Graph, Fault> {
+    let wide = match byte(b, at)? {
+        1 => false,
+        7 => true,
+        _ => return Err((1, 0)),
+    };
+    let size = byte(b, at)?;
+    if size == 0 || (size > 128) != wide {
+        return Err((2, 1));
+    }
+    let width = if wide { 32 } else { 16 };
+    let mut subjects = Set::default();
+    for i in 0..width {
+        let x = byte(b, at)?;
+        for bit in 0..8 {
+            if x >> bit & 1 == 1 {
+                let v = 8 * (width - 1 - i) + bit;
+                if v >= size as usize {
+                    return Err((2, *at - 1));
+                }
+                subjects.put(v as u8);
+            }
+        }
+    }
+    let mut rows = vec![Set::default(); 2048];
+    for p in 0..size as usize {
+        let n = (byte(b, at)? as usize) << 8 | byte(b, at)? as usize;
+        let mut least = (0, 0);
+        for _ in 0..n {
+            let r = below(b, at, 8)?;
+            if r < least.0 {
+                return Err((3, *at - 1));
+            }
+            let q = below(b, at, size)?;
+            if (r, q) < least {
+                return Err((3, *at - 1));
+            }
+            rows[8 * p + r as usize].put(q);
+            least = (r, q + 1);
+        }
+    }
+    Ok(Graph { size, subjects, rows })
+}
+
+impl Graph {
+    fn has(&self, p: u8, r: u8, q: u8) -> bool {
+        self.rows[8 * p as usize + r as usize].has(q)
+    }
+    fn add(&mut self, p: u8, r: u8, q: u8) {
+        self.rows[8 * p as usize + r as usize].put(q)
+    }
+    fn act(&mut self, b: &[u8], at: &mut usize, number: usize) -> Result<(), Fault> {
+        let n = self.size;
+        let kind = byte(b, at)?;
+        match kind {
+            2 | 3 => {
+                let (p, y, r, z) = (below(b, at, n)?, below(b, at, n)?, below(b, at, 8)?, below(b, at, n)?);
+                let (from, to) = if kind == 2 { (y, p) } else { (p, y) };
+                if !(self.subjects.has(p) && self.has(p, kind - 2, y) && self.has(from, r, z)) {
+                    return Err((4, number));
+                }
+                self.add(to, r, z);
+            }
+            4 => {
+                let p = below(b, at, n)?;
+                let acting = byte(b, at)?;
+                if acting > 1 {
+                    return Err((1, *at - 1));
+                }
+                let rights = byte(b, at)?;
+                if !self.subjects.has(p) {
+                    return Err((4, number));
+                }
+                if n == 255 {
+                    return Err((5, number));
+                }
+                self.size += 1;
+                if acting == 1 {
+                    self.subjects.put(n);
+                }
+                for r in 0..8 {
+                    if rights >> r & 1 == 1 {
+                        self.add(p, r, n);
+                    }
+                }
+            }
+            5 => {
+                let (p, r, z) = (below(b, at, n)?, below(b, at, 8)?, below(b, at, n)?);
+                if !self.subjects.has(p) {
+                    return Err((4, number));
+                }
+                self.rows[8 * p as usize + r as usize].cut(z);
+            }
+            _ => return Err((1, *at - 1)),
+        }
+        Ok(())
+    }
+    fn bytes(&self) -> Vec<u8> {
+        let width = if self.size > 128 { 32 } else { 16 };
+        let mut out = vec![if self.size > 128 { 7 } else { 1 }, self.size];
+        for i in (0..width).rev() {
+            out.push((self.subjects.0[i / 8] >> (8 * (i % 8))) as u8);
+        }
+        for p in 0..self.size {
+            let rows = &self.rows[8 * p as usize..8 * p as usize + 8];
+            let n: usize = rows.iter().map(Set::len).sum();
+            out.extend([(n >> 8) as u8, n as u8]);
+            for (r, row) in rows.iter().enumerate() {
+                for q in 0..self.size {
+                    if row.has(q) {
+                        out.extend([r as u8, q]);
+                    }
+                }
+            }
+        }
+        out
+    }
+}
+
+fn replay(b: &[u8]) -> Result<Vec<u8>, Fault> {
+    let mut at = 0;
+    let mut g = read_book(b, &mut at)?;
+    let mut number = 0;
+    while at < b.len() {
+        g.act(b, &mut at, number)?;
+        number += 1;
+    }
+    Ok(g.bytes())
+}
+
+// A hundred vertices, half of them subjects, each with take and grant to many; acts at random, of which those that may be done are kept.
+fn input(acts: usize) -> Vec<u8> {
+    let mut seed = 7u64;
+    let mut next = |n: u64| {
+        seed ^= seed << 13;
+        seed ^= seed >> 7;
+        seed ^= seed << 17;
+        seed % n
+    };
+    let mut g = Graph { size: 100, subjects: Set::default(), rows: vec![Set::default(); 2048] };
+    for p in 0..100 {
+        if p % 2 == 0 {
+            g.subjects.put(p);
+        }
+        for q in 0..100 {
+            for r in 0..8 {
+                if next(4) == 0 {
+                    g.add(p, r, q);
+                }
+            }
+        }
+    }
+    let mut out = g.bytes();
+    let mut done = 0;
+    while done < acts {
+        let (p, y, r, z) = (next(50) as u8 * 2, next(100) as u8, next(8) as u8, next(100) as u8);
+        let act = match next(3) {
+            0 => vec![2, p, y, r, z],
+            1 => vec![3, p, y, r, z],
+            _ => vec![5, p, r, z],
+        };
+        if g.act(&act, &mut 0, 0).is_ok() {
+            out.extend(act);
+            done += 1;
+        }
+    }
+    out
+}
+
+fn main() {
+    let args: Vec<String> = std::env::args().collect();
+    if args.len() == 3 && args[1] == "input" {
+        std::io::stdout().write_all(&input(args[2].parse().unwrap())).unwrap();
+        return;
+    }
+    let mut b = Vec::new();
+    std::io::stdin().read_to_end(&mut b).unwrap();
+    match replay(&b) {
+        Ok(out) => std::io::stdout().write_all(&out).unwrap(),
+        Err((number, place)) => {
+            println!("{number} {place}");
+            std::process::exit(1);
+        }
+    }
+}

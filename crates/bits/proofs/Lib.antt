@@ -1,0 +1,9 @@
+pub mod Bit
+pub mod Below
+pub mod Within
+pub mod Member
+pub mod Scan
+pub mod Holds
+pub mod Bytes
+pub mod Packed
+pub mod Cell

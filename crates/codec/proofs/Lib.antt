@@ -1,0 +1,16 @@
+pub mod Inverted
+pub mod Stands
+pub mod ActBytes
+pub mod Codes
+pub mod HeldBytes
+pub mod Gave
+pub mod Rights
+pub mod Vertex
+pub mod Vertices
+pub mod Steps
+pub mod Subjects
+pub mod SetBytes
+pub mod BookBytes
+pub mod RoundTrips
+pub mod Played
+pub mod Written

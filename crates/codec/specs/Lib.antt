@@ -1,0 +1,11 @@
+pub mod Faults
+pub mod Reading
+pub mod Acts
+pub mod Books
+pub mod Writing
+pub mod Replay
+pub mod ReplayErrors
+pub mod Questions
+pub mod Bookable
+pub mod Played
+pub mod RoundTrips

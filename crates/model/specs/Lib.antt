@@ -1,0 +1,17 @@
+pub mod Bit
+pub mod State
+pub mod Rules
+pub mod Bounded
+pub mod Closure
+pub mod Spans
+pub mod Sharing
+pub mod Certificates
+pub mod Restricted
+pub mod Changes
+pub mod Plans
+pub mod Readings
+pub mod NothingNew
+pub mod Certified
+pub mod Promise
+pub mod Near
+pub mod Examples
