@@ -2,7 +2,7 @@
 use mathlib.Core.Path.{_≡_, sym, ap, ap₂, _∙_}
 use mathlib.Core.Logic.{_⊎_, inl, inr}
 use mathlib.Core.List.{List}
-use mathlib.Core.Bool.{false, not, _&&_, _||_}
+use mathlib.Core.Bool.{Bool, false, not, _&&_, _||_}
 use Prim.Native.Nat.{ℕ, _+_, _-_, _*_, _/_, _%_, _<_, _≤_}
 use native.Mathlib.Omega.{arith}
 use native.Mathlib.Nat.{mul-le-mul-right, suc-mul}
@@ -13,7 +13,7 @@ use Rattle.std.proofs.shelf.Lists.{getD-take, getD-drop, length-take-le, length
 use Rattle.std.proofs.shelf.Tests.{cases-eq, cases-lt, cases-order, lt-ltb, le-ltb}
 use Rattle.std.proofs.shelf.Ways.{tells}
 use Rattle.model.specs.Bit.{bit}
-use Rattle.bits.specs.Sets.{member}
+use Rattle.bits.specs.Sets.{member, Same}
 use Rattle.bits.specs.Rows.{cell}
 use Rattle.bits.proofs.Bit.{bit-or, bit-zero}
 use Rattle.bits.proofs.Member.{member-past, member-set, member-at, member-word}
@@ -152,5 +152,44 @@ cleared-all was w x t i e inv y k =
           elim o [
             | inl f ↦ grind (arith, tells)
             | inr f ↦ grind (arith, tells)
+          ]
+    ]
+
+-- Of row x, the words below i have what the words of a set have too.
+abbrev pub Gained : List ℕ → ℕ → ℕ → List ℕ → List ℕ → ℕ → Type 0
+Gained was w x ws t i = (p : ℕ) → member t p ≡ (member was p || ((leb (64 * (x * w)) p && ltb p (64 * (x * w + i))) && member ws (p - 64 * (x * w))))
+
+pub gained-none : (was : List ℕ) (w x : ℕ) (ws : List ℕ) → Gained was w x ws was 0
+gained-none was w x ws p = grind (arith, tells)
+
+pub gained-more : (was : List ℕ) (w x : ℕ) (ws t : List ℕ) (i : ℕ) → i < w → x * w + w ≤ length t → Gained was w x ws t i → Gained was w x ws (set t (x * w + i) (bitOr (getD t (x * w + i) 0) (getD ws i 0))) (i + 1)
+gained-more was w x ws t i h l inv p =
+    let a : ℕ = x * w + i in
+    let written = member-set t a (bitOr (getD t a 0) (getD ws i 0)) p (omega arith) in
+    let before = inv p in
+    elim (cases-eq (p / 64) a) [
+      | inl e ↦
+          let left = member-at t a p e in
+          let right = member-word ws i (p % 64) (omega arith) in
+          let either = bit-or (getD t a 0) (getD ws i 0) (p % 64) in
+          let same : member ws (p - 64 * (x * w)) ≡ member ws (64 * i + p % 64) = ap (member ws) (omega arith) in
+          grind (arith, tells)
+      | inr d ↦ grind (arith, tells)
+    ]
+
+pub gained-all : (was : List ℕ) (w x : ℕ) (ws t : List ℕ) (i : ℕ) (f : ℕ → Bool) → i ≡ w → Same (member ws) f → Gained was w x ws t i → (y k : ℕ) → cell t w y k ≡ (cell was w y k || (eqb y x && (ltb k (64 * w) && f k)))
+unfolding cell
+gained-all was w x ws t i f e s inv y k =
+    let all = inv (64 * (y * w) + k) in
+    let here = s k in
+    elim (rows-order y x w) [
+      | inl g ↦
+          let same : y * w ≡ x * w = ap (λ z. z * w) g in
+          let source : member ws (64 * (y * w) + k - 64 * (x * w)) ≡ member ws k = ap (member ws) (omega arith) in
+          grind (arith, tells)
+      | inr o ↦
+          elim o [
+            | inl g ↦ grind (arith, tells)
+            | inr g ↦ grind (arith, tells)
           ]
     ]

@@ -105,3 +105,27 @@ joined-all f was from ws i none a b inv k =
           inv k ∙ cond-false (ltb k (64 * i)) (f (member was k) (member from k)) (member was k) (le-ltb k (64 * i) h)
           ∙ left ∙ sym none ∙ ap₂ f (sym left) (sym right)
     ]
+
+-- The words below i are those of `from`, and there is nothing past them.
+abbrev pub Copied : List ℕ → List ℕ → ℕ → Type 0
+Copied from ws i = (k : ℕ) → member ws k ≡ (ltb k (64 * i) && member from k)
+
+pub copied-none : (from : List ℕ) (n : ℕ) → Copied from (replicate n 0) 0
+copied-none from n k = let none = member-zeros n k in grind (arith, tells)
+
+pub copied-more : (from ws : List ℕ) (i : ℕ) → i < length ws → Copied from ws i → Copied from (set ws i (getD from i 0)) (i + 1)
+copied-more from ws i h inv k =
+    let written = member-set ws i (getD from i 0) k h in
+    let before = inv k in
+    elim (cases-eq (k / 64) i) [
+      | inl e ↦ let here = member-at from i k e in grind (arith, tells)
+      | inr d ↦ grind (arith, tells)
+    ]
+
+pub copied-all : (from ws : List ℕ) (i : ℕ) → i ≡ length from → Copied from ws i → (k : ℕ) → member ws k ≡ member from k
+copied-all from ws i e inv k =
+    let all = inv k in
+    elim (cases-lt k (64 * i)) [
+      | inl h ↦ grind (arith, tells)
+      | inr h ↦ let past = member-past from k (omega arith) in grind (arith, tells)
+    ]

@@ -5,11 +5,13 @@ mod rows;
 mod set;
 mod words;
 
+pub use rows::row_add;
 pub use rows::row_clear;
 pub use rows::row_contains;
 pub use rows::row_count;
 pub use rows::row_insert;
 pub use rows::row_is_subset;
+pub use rows::row_set;
 pub use rows::row_union;
 pub use set::VertexSet;
 

@@ -2,12 +2,13 @@
 
 ghost use Prim.Native.Nat.{ℕ, _*_, _+_, _<_, _^_, _≤_};
 ghost use Rattle.bits.specs.Rows.{cell};
-ghost use Rattle.bits.specs.Sets.{member};
+ghost use Rattle.bits.specs.Sets.{holds, member};
 ghost use Rattle.model.specs.Bounded.{allBelow, countBelow, implies};
-ghost use lib.Dec.{eqb};
+ghost use lib.Dec.{eqb, ltb};
 ghost use lib.ListN.{length};
 ghost use mathlib.Core.Bool.{_&&_, _||_, not};
 ghost use mathlib.Core.Path.{_≡_};
+use crate::set::VertexSet;
 use crate::words;
 
 fn row(rows: &[u64], w: usize, x: usize) -> &[u64]
@@ -64,5 +65,24 @@ pub fn row_clear(rows: &mut [u64], w: usize, x: usize)
 {
     for i in 0..w {
         rows[x * w + i] = 0;
+    }
+}
+
+// What row x has, as a set.
+pub fn row_set(rows: &[u64], w: usize, x: usize) -> VertexSet
+    requires { ⌜ x * w + w ≤ length (now rows) ⌝ ∗ ⌜ w ≤ 4 ⌝ }
+    ensures { λ r. ⌜ ((k : ℕ) → holds r k ≡ cell (now (rows .entry)) w x k) ⌝ }
+{
+    VertexSet::of(words::padded(row(rows, w, x)))
+}
+
+// Adds to row x what the set has; what is past the end of a row is left out.
+pub fn row_add(rows: &mut [u64], w: usize, x: usize, set: &VertexSet)
+    requires { ⌜ x * w + w ≤ length (now rows) ⌝ ∗ ⌜ w ≤ 4 ⌝ }
+    ensures { λ _. ⌜ ((y k : ℕ) → cell (now (rows .exit)) w y k ≡ (cell (now (rows .entry)) w y k || (eqb y x && (ltb k (64 * w) && holds (now (set .entry)) k)))) ⌝ }
+{
+    let words = set.words();
+    for i in 0..w {
+        rows[x * w + i] |= words[i];
     }
 }

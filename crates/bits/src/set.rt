@@ -18,13 +18,13 @@ pub struct VertexSet {
 }
 
 impl VertexSet {
-    fn of(words: [u64; 4]) -> VertexSet
+    pub(crate) fn of(words: [u64; 4]) -> VertexSet
         ensures { λ r. ⌜ ((k : ℕ) → holds r k ≡ member words k) ⌝ }
     {
         VertexSet { words }
     }
 
-    fn words(&self) -> [u64; 4]
+    pub(crate) fn words(&self) -> [u64; 4]
         ensures { λ r. ⌜ ((k : ℕ) → member r k ≡ holds (now (self .entry)) k) ⌝ }
     {
         self.words

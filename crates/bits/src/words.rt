@@ -119,3 +119,15 @@ pub fn lowest(words: &[u64]) -> Option<usize>
     }
     None
 }
+
+// The same set in four words.
+pub fn padded(words: &[u64]) -> [u64; 4]
+    requires { ⌜ length (now words) ≤ 4 ⌝ }
+    ensures { λ r. ⌜ ((k : ℕ) → member r k ≡ member (now (words .entry)) k) ⌝ }
+{
+    let mut all = [0; 4];
+    for (i, w) in words.iter().enumerate() {
+        all[i] = *w;
+    }
+    all
+}

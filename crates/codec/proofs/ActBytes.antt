@@ -1,19 +1,19 @@
 -- An act is read from its bytes, and from no others.
-use mathlib.Core.Path.{_≡_, refl, sym, ap, subst, _∙_}
-use mathlib.Core.Bool.{Bool, true, false, cond}
-use mathlib.Core.Logic.{_⊎_, inl, inr}
-use mathlib.Core.List.{List, [], _∷_, _++_}
+use mathlib.Core.Path.{_≡_, refl, sym, ap, subst}
+use mathlib.Core.Bool.{Bool, true, false}
+use mathlib.Core.Logic.{inl, inr}
+use mathlib.Core.List.{List, [], _∷_}
 use Prim.Native.Nat.{ℕ, _+_, _<_}
 use native.Mathlib.Omega.{arith}
 use lib.Dec.{eqb}
 use lib.ListN.{length, getD}
-use Rattle.std.specs.declared.result.Result.the-variants.{Ok, Err}
+use Rattle.std.specs.declared.result.Result.the-variants.{Ok}
 use Rattle.std.proofs.shelf.Tests.{eqb-true}
 use Rattle.model.specs.declared.Rule.{Rule}
 use Rattle.model.specs.declared.Rule.the-variants.{Take, Grant, Create, Remove}
 use Rattle.codec.specs.declared.act.Transfer.{Transfer}
 use Rattle.codec.specs.declared.fault.Fault.the-variants.{UnknownKind, BadFlag}
-use Rattle.codec.specs.Reading.{Read, _then_, byteAt, belowAt, flagAt}
+use Rattle.codec.specs.Reading.{Read, _then_, flagAt}
 use Rattle.codec.specs.Acts.{actAt, takeAt, grantAt, createAt, removeAt, transferAt, flagByte, actBytes}
 use Rattle.codec.specs.Played.{InRange}
 use Rattle.codec.proofs.Inverted.{Byte, ok-same, never-ok, then-ok, cond-ways, then-on, byte-read, below-read, byte-ok, below-ok}

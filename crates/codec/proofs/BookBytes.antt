@@ -1,14 +1,14 @@
 -- A book is read from its bytes, and from no others.
-use mathlib.Core.Path.{_≡_, refl, sym, ap, ap₂, subst, _∙_}
-use mathlib.Core.Bool.{Bool, true, false, cond, _&&_}
-use mathlib.Core.Logic.{_⊎_, inl, inr}
-use mathlib.Core.List.{List, [], _∷_, _++_}
-use Prim.Native.Nat.{ℕ, zero, suc, _+_, _*_, _<_, _≤_}
+use mathlib.Core.Path.{_≡_, refl, sym, ap, subst, _∙_}
+use mathlib.Core.Bool.{Bool, cond, _&&_}
+use mathlib.Core.Logic.{inl, inr}
+use mathlib.Core.List.{List, _∷_, _++_}
+use Prim.Native.Nat.{ℕ, _+_, _*_, _<_, _≤_}
 use native.Mathlib.Nat.{zero-add}
 use native.Mathlib.Omega.{arith}
 use lib.Dec.{eqb, leb, T, ltb, ltb→lt}
 use lib.ListN.{length, getD}
-use Rattle.std.specs.declared.result.Result.the-variants.{Ok, Err}
+use Rattle.std.specs.declared.result.Result.the-variants.{Ok}
 use Rattle.std.proofs.shelf.Lists.{length-append}
 use Rattle.std.proofs.shelf.Tests.{eqb-true, leb-true, le-leb, lt-leb, and-from, and-parts, cond-true, cases-lt}
 use Rattle.bits.specs.Sets.{setBytes}
@@ -21,8 +21,8 @@ use Rattle.codec.specs.declared.book.Layout.the-variants.{Narrow, Wide}
 use Rattle.codec.specs.declared.fault.Fault.the-variants.{UnknownKind, OutOfRange}
 use Rattle.codec.specs.Bookable.{Bookable}
 use Rattle.codec.specs.Reading.{Read, _then_}
-use Rattle.codec.specs.Books.{layoutKind, leastSize, mostSize, setWidth, layoutAt, sizeAt, subjectsAt, verticesAt, bookAt}
-use Rattle.codec.specs.Writing.{layoutOf, headBytes, verticesBytes, bookBytes}
+use Rattle.codec.specs.Books.{layoutKind, leastSize, mostSize, setWidth, layoutAt, sizeAt, verticesAt, bookAt}
+use Rattle.codec.specs.Writing.{layoutOf, bookBytes}
 use Rattle.codec.proofs.Inverted.{Byte, ok-same, never-ok, then-ok, then-on, cond-ok, cond-ways, byte-read, byte-ok}
 use Rattle.codec.proofs.Stands.{Stands, stands-append, stands-left, stands-right}
 use Rattle.codec.proofs.SetBytes.{subjects-read, subjects-ok}

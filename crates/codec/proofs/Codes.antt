@@ -1,14 +1,14 @@
 -- A right to a vertex as one number, 256 for each right and one for each vertex, and rising lists of such numbers.
 use mathlib.Core.Path.{_≡_, refl, sym, ap, subst, _∙_}
 use mathlib.Core.Bool.{Bool, true, false, cond, _||_}
-use mathlib.Core.Logic.{_⊎_, inl, inr}
+use mathlib.Core.Logic.{inl, inr}
 use mathlib.Core.List.{List, [], _∷_, _++_}
 use Prim.Native.Nat.{ℕ, zero, suc, _+_, _*_, _/_, _%_, _<_, _≤_}
 use native.Mathlib.Nat.{zero-add, suc-add, add-zero}
 use native.Mathlib.Omega.{arith}
 use lib.Dec.{eqb, T, eqb→eq}
 use lib.ListN.{length}
-use Rattle.std.proofs.shelf.Tests.{cases-eq, cases-bool, ne-eqb, eq-eqb, cond-true, cond-false, cond-both, or-from, or-left}
+use Rattle.std.proofs.shelf.Tests.{cases-eq, cases-bool, ne-eqb, eq-eqb, or-from, or-left}
 use Rattle.model.proofs.Tests.{cases, left, right, eq-test, from-true}
 
 -- The numbers from k on, m of them, that pass the test.

@@ -3,16 +3,16 @@ use mathlib.Core.Path.{_≡_, refl, sym, ap, subst, _∙_}
 use mathlib.Core.Bool.{Bool, true, false, cond}
 use mathlib.Core.Logic.{_⊎_, inl, inr}
 use mathlib.Core.List.{List}
-use Prim.Native.Nat.{ℕ, _+_, _*_, _<_}
+use Prim.Native.Nat.{ℕ, _+_, _<_}
 use native.Mathlib.Omega.{arith}
-use lib.Dec.{ltb, eqb}
+use lib.Dec.{ltb}
 use lib.ListN.{length, getD}
 use Rattle.std.specs.declared.result.Result.{Result}
 use Rattle.std.specs.declared.result.Result.the-variants.{Ok, Err}
 use Rattle.std.proofs.shelf.Tests.{ltb-true, lt-ltb, cond-true}
 use Rattle.codec.specs.declared.fault.Fault.{Fault}
 use Rattle.codec.specs.declared.fault.Fault.the-variants.{Missing, OutOfRange}
-use Rattle.codec.specs.Reading.{Read, onward, _then_, byteAt, belowAt, countAt}
+use Rattle.codec.specs.Reading.{Read, onward, _then_, byteAt, belowAt}
 
 pub ok-same : {A : Type 0} (a b : A) → _≡_ {A = Result A Fault} (Ok a) (Ok b) → a ≡ b
 ok-same a b e = cc
@@ -20,9 +20,20 @@ ok-same a b e = cc
 pub never-ok : {A C : Type 0} (f : Fault) (a : A) → _≡_ {A = Result A Fault} (Err f) (Ok a) → C
 never-ok f a e = absurd (let z : _≡_ {A = ℕ} 0 1 = cc in omega arith)
 
+pub err-same : {A : Type 0} (f d : Fault) → _≡_ {A = Result A Fault} (Err f) (Err d) → f ≡ d
+err-same f d e = cc
+
+pub never-err : {A C : Type 0} (a : A) (f : Fault) → _≡_ {A = Result A Fault} (Ok a) (Err f) → C
+never-err a f e = absurd (let z : _≡_ {A = ℕ} 0 1 = cc in omega arith)
+
 pub onward-ok : {A B : Type 0} (r : Result A Fault) (f : A → Result B Fault) (b : B) → onward r f ≡ Ok b → (a : A) × (r ≡ Ok a) × (f a ≡ Ok b)
 onward-ok (Ok a) f b e = (a, refl, e)
 onward-ok {A} {B} (Err d) f b e = never-ok d b e
+
+-- And one that went wrong: where it did.
+pub onward-err : {A B : Type 0} (r : Result A Fault) (f : A → Result B Fault) (d : Fault) → onward r f ≡ Err d → (r ≡ Err d) ⊎ ((a : A) × (r ≡ Ok a) × (f a ≡ Err d))
+onward-err (Ok a) f d e = inr (a, refl, e)
+onward-err {A} {B} (Err g) f d e = inl (ap (λ h. Err h) (err-same {A = B} g d e))
 
 pub then-ok : {A B : Type 0} (r : Read A) (f : A → ℕ → Read B) (b : B × ℕ) → (r then f) ≡ Ok b → (a : A × ℕ) × (r ≡ Ok a) × (f (a .0) (a .1) ≡ Ok b)
 then-ok (Ok a) f b e = (a, refl, e)

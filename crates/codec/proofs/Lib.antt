@@ -12,5 +12,13 @@ pub mod Subjects
 pub mod SetBytes
 pub mod BookBytes
 pub mod RoundTrips
+pub mod Performed
+pub mod Running
 pub mod Played
+pub mod After
+pub mod Looked
+pub mod Alike
+pub mod Broken
+pub mod Told
+pub mod Replays
 pub mod Written

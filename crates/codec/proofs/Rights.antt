@@ -1,19 +1,19 @@
 -- The rights of one vertex are read from the bytes of a rising list, and from no others.
 use mathlib.Core.Path.{_≡_, refl, sym, ap, subst, _∙_}
-use mathlib.Core.Bool.{Bool, true, false, cond, _&&_}
-use mathlib.Core.Logic.{_⊎_, inl, inr}
+use mathlib.Core.Bool.{false, _&&_}
+use mathlib.Core.Logic.{inl, inr}
 use mathlib.Core.List.{List, [], _∷_}
 use Prim.Native.Nat.{ℕ, zero, suc, _+_, _*_, _/_, _%_, _<_, _≤_}
 use native.Mathlib.Omega.{arith}
 use lib.Dec.{eqb, ltb}
-use lib.ListN.{length, getD}
-use Rattle.std.specs.declared.result.Result.the-variants.{Ok, Err}
-use Rattle.std.proofs.shelf.Tests.{ltb-true, ltb-false, eq-eqb, lt-ltb, le-ltb, ne-eqb, eqb-true, cases-lt, cases-eq, cond-false, and-left, and-right, and-from, and-cases, eqb-false, both-ways}
+use lib.ListN.{length}
+use Rattle.std.specs.declared.result.Result.the-variants.{Ok}
+use Rattle.std.proofs.shelf.Tests.{ltb-false, le-ltb, ne-eqb, cases-eq, cond-false, and-left, and-right, and-cases, eqb-false}
 use Rattle.model.specs.State.{State}
 use Rattle.model.specs.Rules.{given}
 use Rattle.codec.specs.declared.book.Held.{Held}
 use Rattle.codec.specs.declared.fault.Fault.the-variants.{NotRising}
-use Rattle.codec.specs.Reading.{Read, _then_, belowAt}
+use Rattle.codec.specs.Reading.{Read, _then_}
 use Rattle.codec.specs.Books.{heldAt, rightsAt, past}
 use Rattle.codec.proofs.Inverted.{Byte, ok-same, never-ok, then-ok, then-on, cond-ways, below-read, below-ok}
 use Rattle.codec.proofs.Stands.{Stands}

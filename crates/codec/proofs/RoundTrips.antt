@@ -1,12 +1,11 @@
 -- The round trips of books and acts, and what the reader of acts says by them.
-use mathlib.Core.Path.{_≡_, refl, sym, ap, subst, _∙_}
-use mathlib.Core.List.{List, [], _∷_, _++_, append-nil}
-use Prim.Native.Nat.{ℕ, _+_, _-_, _<_, _≤_}
+use mathlib.Core.Path.{_≡_, sym, ap, _∙_}
+use mathlib.Core.List.{List, [], _++_, append-nil}
+use Prim.Native.Nat.{ℕ, _-_, _<_, _≤_}
 use native.Mathlib.Omega.{arith}
-use lib.ListN.{length, getD, take, drop}
+use lib.ListN.{length, take, drop}
 use Rattle.std.specs.Holes.{between}
 use Rattle.std.specs.Vec.{made}
-use Rattle.std.specs.declared.result.Result.{Result}
 use Rattle.std.specs.declared.result.Result.the-variants.{Ok, Err}
 use Rattle.model.specs.State.{State}
 use Rattle.model.specs.declared.Rule.{Rule}
@@ -14,17 +13,16 @@ use Rattle.model.specs.declared.Rule.the-variants.{Take, Grant, Create, Remove}
 use Rattle.graph.specs.Graphs.{state}
 use Rattle.graph.specs.declared.graph.Graph.{Graph}
 use Rattle.graph.proofs.Sound.{right-below, subject-below, some-vertex, few-vertices, well-formed}
-use Rattle.codec.specs.declared.fault.Fault.{Fault}
 use Rattle.codec.specs.Reading.{Read}
 use Rattle.codec.specs.Acts.{actAt, actBytes}
 use Rattle.codec.specs.Bookable.{Bookable}
 use Rattle.codec.specs.Books.{bookAt}
 use Rattle.codec.specs.Played.{InRange}
-use Rattle.codec.specs.RoundTrips.{AreBytes, BooksReadBack, BookRead, BooksWriteBack, ActsReadBack, ActRead, ActsWriteBack}
+use Rattle.codec.specs.RoundTrips.{AreBytes, BooksReadBack, BooksWriteBack, ActsReadBack, ActsWriteBack}
 use Rattle.codec.specs.Writing.{bookBytes}
 use Rattle.codec.proofs.Stands.{Stands, stands-in, stands-part, stands-within}
-use Rattle.codec.proofs.ActBytes.{act-read, act-ok, ActStood}
-use Rattle.codec.proofs.BookBytes.{book-read, book-ok, BookStood}
+use Rattle.codec.proofs.ActBytes.{act-read, act-ok}
+use Rattle.codec.proofs.BookBytes.{book-read, book-ok}
 
 -- Every graph can be written as a book.
 pub graph-bookable : (g : Graph) → Bookable (state g)

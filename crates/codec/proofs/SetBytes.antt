@@ -1,25 +1,23 @@
 -- A set of vertices is read from its bytes, and from no others.
-use mathlib.Core.Path.{_≡_, refl, sym, ap, subst, fun-ext, _∙_}
-use mathlib.Core.Bool.{Bool, true, false, cond, _&&_}
-use mathlib.Core.Logic.{_⊎_, inl, inr}
-use mathlib.Core.List.{List, []}
+use mathlib.Core.Path.{_≡_, sym, ap, subst, fun-ext, _∙_}
+use mathlib.Core.Bool.{Bool, cond}
+use mathlib.Core.Logic.{inl, inr}
+use mathlib.Core.List.{List}
 use Prim.Native.Nat.{ℕ, zero, suc, _+_, _-_, _*_, _^_, _<_, _≤_}
 use native.Mathlib.Nat.{add-zero}
 use native.Mathlib.Omega.{arith}
 use lib.Dec.{ltb, T, lt→ltb}
-use lib.ListN.{length, getD, take, drop}
+use lib.ListN.{getD, take, drop}
 use lib.Pow.{pow-mono}
-use Rattle.std.specs.declared.result.Result.{Result}
 use Rattle.std.specs.declared.result.Result.the-variants.{Ok, Err}
 use Rattle.std.proofs.shelf.Lists.{getD-take, getD-drop}
-use Rattle.std.proofs.shelf.Tests.{cases-lt, cases-bool, cond-true, lt-ltb}
-use Rattle.model.proofs.Tests.{same, both, parts, is-false, from-true}
+use Rattle.std.proofs.shelf.Tests.{cases-lt, cond-true, lt-ltb}
+use Rattle.model.proofs.Tests.{same, both, parts, is-false}
 use Rattle.bits.specs.Sets.{bitsValue, byteOf, setBytes, inBytes}
 use Rattle.bits.proofs.Bytes.{bits-lt, length-set-bytes, in-set-bytes, set-in-bytes}
-use Rattle.codec.specs.declared.fault.Fault.{Fault}
 use Rattle.codec.specs.declared.fault.Fault.the-variants.{OutOfRange}
-use Rattle.codec.specs.Reading.{Read, _then_, onward, byteAt}
-use Rattle.codec.specs.Books.{setByteAt, setEnd, subjectsAt}
+use Rattle.codec.specs.Reading.{Read, _then_}
+use Rattle.codec.specs.Books.{setEnd, subjectsAt}
 use Rattle.codec.proofs.Inverted.{ok-same, then-ok, onward-ok, onward-on, byte-read}
 use Rattle.codec.proofs.Stands.{Stands, stands-part, part-stands}
 use Rattle.codec.proofs.Subjects.{set-read, set-long, named-below}

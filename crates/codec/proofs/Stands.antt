@@ -1,11 +1,11 @@
 -- Bytes that stand at an offset of the input.
 use mathlib.Core.Path.{_≡_, refl, sym, ap, ap₂, subst, _∙_}
-use mathlib.Core.Logic.{_⊎_, inl, inr}
+use mathlib.Core.Logic.{inl, inr}
 use mathlib.Core.List.{List, [], _∷_, _++_}
-use Prim.Native.Nat.{ℕ, suc, _+_, _<_, _≤_}
+use Prim.Native.Nat.{ℕ, suc, _+_, _≤_}
 use native.Mathlib.Omega.{arith}
-use lib.ListN.{length, getD, take, drop}
-use Rattle.std.proofs.shelf.Lists.{drop-more, drop-all, drop-at, take-at, take-all}
+use lib.ListN.{length, take, drop}
+use Rattle.std.proofs.shelf.Lists.{drop-more, drop-all, drop-at, take-at, take-all, take-append-drop}
 use Rattle.std.proofs.shelf.Tests.{cases-lt}
 use Rattle.codec.proofs.Inverted.{Byte}
 
@@ -50,3 +50,7 @@ stands-within bs (b ∷ xs) at h l = let k = stands-within bs xs (at + 1) (h .1)
 -- What fills the input is the input.
 pub stands-whole : (bs xs : List ℕ) → Stands bs 0 xs → length bs ≡ length xs → bs ≡ xs
 stands-whole bs xs h e = sym (take-all (length xs) bs (omega arith)) ∙ stands-part bs xs 0 h
+
+-- What stands at the front, and what follows it.
+pub stands-at-front : (bs xs : List ℕ) → Stands bs 0 xs → bs ≡ xs ++ drop (length xs) bs
+stands-at-front bs xs h = sym (take-append-drop (length xs) bs) ∙ ap (λ x. x ++ drop (length xs) bs) (stands-part bs xs 0 h)

@@ -1,13 +1,12 @@
 -- A set of vertices that was read: where it ends, and that it names only vertices that are there.
-use mathlib.Core.Path.{_≡_, refl, sym, ap, subst, _∙_}
-use mathlib.Core.Bool.{Bool, true, false, cond, _&&_}
-use mathlib.Core.Logic.{_⊎_, inl, inr}
+use mathlib.Core.Path.{_≡_, sym, ap, subst, _∙_}
+use mathlib.Core.Bool.{true, false, cond}
+use mathlib.Core.Logic.{inl, inr}
 use mathlib.Core.List.{List}
 use Prim.Native.Nat.{ℕ, zero, suc, _+_, _-_, _*_, _/_, _%_, _^_, _<_, _≤_}
 use native.Mathlib.Omega.{arith}
 use lib.Dec.{ltb, T, ltb→lt}
 use lib.ListN.{length, getD, take, drop}
-use Rattle.std.specs.declared.result.Result.{Result}
 use Rattle.std.specs.declared.result.Result.the-variants.{Ok, Err}
 use Rattle.std.proofs.shelf.Lists.{getD-take, getD-drop, length-take, length-take-le, length-drop}
 use Rattle.std.proofs.shelf.Tests.{ltb-true, cases-lt, cases-eq}
@@ -15,9 +14,8 @@ use Rattle.model.specs.Bit.{bit}
 use Rattle.model.proofs.Tests.{parts}
 use Rattle.bits.specs.Sets.{inBytes}
 use Rattle.bits.proofs.Bit.{bit-past}
-use Rattle.codec.specs.declared.fault.Fault.{Fault}
 use Rattle.codec.specs.declared.fault.Fault.the-variants.{Missing, OutOfRange}
-use Rattle.codec.specs.Reading.{onward, byteAt}
+use Rattle.codec.specs.Reading.{byteAt}
 use Rattle.codec.specs.Books.{setByteAt, setEnd}
 use Rattle.codec.proofs.Inverted.{onward-ok, cond-ok}
 

@@ -1,20 +1,19 @@
 -- The rights of all vertices are read from their bytes, and from no others.
 use mathlib.Core.Path.{_≡_, refl, sym, ap, ap₂, subst, fun-ext, _∙_}
-use mathlib.Core.Bool.{Bool, true, false, _&&_, _||_}
-use mathlib.Core.Logic.{_⊎_, inl, inr}
-use mathlib.Core.List.{List, [], _∷_, _++_, append-assoc, append-nil}
+use mathlib.Core.Bool.{_&&_}
+use mathlib.Core.Logic.{inl, inr}
+use mathlib.Core.List.{List, [], _++_, append-assoc, append-nil}
 use Prim.Native.Nat.{ℕ, zero, suc, _+_, _*_, _/_, _%_, _<_, _≤_}
 use native.Mathlib.Nat.{add-zero, zero-add}
 use native.Mathlib.Omega.{arith}
-use lib.Dec.{eqb, ltb, T, ltb→lt, lt→ltb, eqb→eq}
+use lib.Dec.{ltb, T, ltb→lt, lt→ltb}
 use lib.ListN.{length, getD}
-use Rattle.std.specs.declared.result.Result.the-variants.{Ok, Err}
+use Rattle.std.specs.declared.result.Result.the-variants.{Ok}
 use Rattle.std.proofs.shelf.Lists.{length-append}
 use Rattle.std.proofs.shelf.Tests.{cases-eq}
 use Rattle.model.specs.State.{State}
-use Rattle.model.proofs.Tests.{same, both, parts, cases}
+use Rattle.model.proofs.Tests.{same, both, parts}
 use Rattle.codec.specs.Bookable.{Bookable}
-use Rattle.codec.specs.Reading.{Read, _then_}
 use Rattle.codec.specs.Books.{verticesAt}
 use Rattle.codec.specs.Writing.{vertexBytes, verticesBytes}
 use Rattle.codec.proofs.Inverted.{ok-same}

@@ -9,3 +9,4 @@ pub mod Questions
 pub mod Bookable
 pub mod Played
 pub mod RoundTrips
+pub mod Told

@@ -6,6 +6,7 @@ use lib.ListN.{length, getD, take}
 use Rattle.std.specs.Holes.{between}
 use Rattle.std.specs.declared.result.Result.the-variants.{Ok}
 use Rattle.model.specs.State.{State}
+use Rattle.model.specs.Rules.{after}
 use Rattle.model.specs.declared.Rule.{Rule}
 use Rattle.codec.specs.Acts.{actAt, actBytes}
 use Rattle.codec.specs.Bookable.{Bookable}
@@ -52,3 +53,7 @@ ReplaysPlay = (input output : List ℕ) → AreBytes input → replayed input �
 
 abbrev pub PlaysReplay : Type 0
 PlaysReplay = (input output : List ℕ) → Played input output → replayed input ≡ Ok output
+
+-- The output is a book again, of the state after the acts.
+abbrev pub OutputsReadBack : Type 0
+OutputsReadBack = (input output : List ℕ) → (p : Played input output) → bookAt output ≡ Ok (after (p .start) (p .acts), length output)

@@ -84,7 +84,8 @@ fn width(layout: Layout) -> usize
     }
 }
 
-fn read_subjects(
+// A set of vertices below `size`, in so many bytes, and the offset behind it.
+pub fn read_subjects(
     bytes: &[u8],
     size: u8,
     width: usize,

@@ -4,6 +4,7 @@ ghost use Rattle.codec.specs.Played.{Played};
 ghost use Rattle.codec.specs.Replay.{actsAt, performedAt, replayed};
 ghost use Rattle.codec.specs.Books.{filled};
 ghost use Rattle.codec.specs.ReplayErrors.{answered, ended};
+ghost use Rattle.codec.specs.Told.{Told, faulted};
 ghost use Rattle.codec.specs.declared.history.ReplayError.the-variants.{Input, NoMemory};
 ghost use Rattle.graph.specs.Graphs.{state};
 ghost use Rattle.std.specs.Of.Vec.{vec-items};
@@ -53,6 +54,7 @@ pub impl From<AllocError> for ReplayError as ReplayErrorFromAllocError {
 pub fn replay(heap: Global, bytes: &[u8]) -> Result<Vec<u8>, ReplayError>
     ensures value { λ r. ⌜ answered r (replayed (now (bytes .entry))) ⌝ }
     ensures played { λ r. ⌜ made r (λ v. Played (now (bytes .entry)) (vec-items v)) ⌝ }
+    ensures faults { λ r. ⌜ faulted r (Told (now (bytes .entry))) ⌝ }
 {
     let (mut graph, at) = read_book(bytes)?;
     apply_acts(bytes, at, &mut graph)?;
@@ -73,7 +75,7 @@ fn apply_acts(bytes: &[u8], start: usize, graph: &mut Graph) -> Result<(), Fault
 }
 
 // Applies the act at an offset, and answers with the offset behind it.
-fn apply_act(bytes: &[u8], at: usize, number: usize, graph: &mut Graph) -> Result<usize, Fault>
+pub fn apply_act(bytes: &[u8], at: usize, number: usize, graph: &mut Graph) -> Result<usize, Fault>
     ensures value { λ r. ⌜ filled r (state (now (graph .exit))) ≡ performedAt (now (bytes .entry)) at number (state (now (graph .entry))) ⌝ }
     ensures bound { λ r. ⌜ made r (λ next. (at < next) × (next ≤ length (now (bytes .entry)))) ⌝ }
 {

@@ -10,9 +10,11 @@ mod write;
 
 pub use act::read_act;
 pub use book::read_book;
+pub use book::read_subjects;
 pub use fault::Fault;
 pub use fault::FaultDisplay;
 pub use history::ReplayError;
+pub use history::apply_act;
 pub use history::replay;
 pub use question::Question;
 pub use question::read_narrow_book;

@@ -71,7 +71,7 @@ module _ (g : Graph) where
           let a = parts (isSubject (state g) p) _ t in
           both (state g .subject p) _ (parts (isVertex (state g) p) (state g .subject p) (a .0) .1) (parts (isVertex (state g) y) _ (parts (isVertex (state g) q) _ (a .1) .1) .1)
 
-  only-subjects : (p : ℕ) → state g .subject p ≡ isSubject (state g) p
+  pub only-subjects : (p : ℕ) → state g .subject p ≡ isSubject (state g) p
   only-subjects p = same _ _ (acts p) (λ t. parts _ _ t .1)
 
 pub entitled-is : (g : Graph) (a : Rule) → entitled (state g) a ≡ applicable (state g) a

@@ -1,11 +1,7 @@
-use mathlib.Core.Path.{_≡_, refl, sym, ap, ap₂, fun-ext, _∙_}
-use mathlib.Core.List.{List, [], _∷_, _++_, append-nil}
-use Prim.Native.Nat.{ℕ, _+_, _/_, _%_}
+use mathlib.Core.Path.{_≡_, sym, ap, _∙_}
+use mathlib.Core.List.{_++_, append-nil}
 use native.Mathlib.Omega.{arith}
-use borrow.Author.Needs.{needs}
-use Rattle.std.specs.Of.Vec.{vec-items}
 use Rattle.graph.specs.Graphs.{state}
-use Rattle.bits.specs.Sets.{holds}
 use Rattle.codec.specs.Writing.{headBytes, verticesBytes, vertexBytes, bookBytes}
 use Rattle.std.specs.declared.result.Result.the-variants.{Ok}
 use lib.ListN.{length}

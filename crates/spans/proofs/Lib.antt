@@ -1,0 +1,10 @@
+pub mod Rounds
+pub mod Closing
+pub mod Wide
+pub mod Walk
+pub mod Entered
+pub mod Search
+pub mod Itself
+pub mod Unseen
+pub mod Spanning
+pub mod Islands

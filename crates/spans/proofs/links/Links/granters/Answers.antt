@@ -1,0 +1,6 @@
+use Rattle.graph.specs.Table.{inRow}
+use Rattle.spans.proofs.links.Links.granters.Needs as need
+
+pub returns : need.returns
+unfolding inRow
+returns c = record { value = c .args .self .now .granted (c .args .p) }
