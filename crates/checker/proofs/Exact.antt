@@ -1,5 +1,5 @@
 -- No fault is found exactly where the certificate is right.
-use mathlib.Core.Path.{_≡_, refl, ap}
+use mathlib.Core.Path.{_≡_, refl}
 use mathlib.Core.Bool.{Bool, true, false, _&&_, _||_, not}
 use mathlib.Core.Logic.{inl, inr}
 use Prim.Native.Nat.{ℕ, _<_}
@@ -9,7 +9,7 @@ use Rattle.std.specs.Options.{isSome}
 use Rattle.std.specs.declared.option.Option.{Option}
 use Rattle.std.specs.declared.option.Option.the-variants.{Some, None}
 use Rattle.model.specs.State.{State, takeRight, grantRight}
-use Rattle.model.specs.Bounded.{allBelow, someBelow, implies}
+use Rattle.model.specs.Bounded.{allBelow, implies}
 use Rattle.model.specs.Certificates.{Certificate, lacks, vertexFits, takeFits, grantFits, rightFits, isRight}
 use Rattle.model.proofs.Tests.{both, parts, cases, left, right, same, implied, implying, some-from, some-below, all-from, all-at}
 use Rattle.checker.specs.First.{firstBelow}

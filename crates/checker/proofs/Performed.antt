@@ -9,7 +9,7 @@ use lib.ListN.{length}
 use Rattle.std.proofs.shelf.Tests.{eqb-false, ne-eqb}
 use Rattle.std.specs.declared.result.Result.the-variants.{Ok}
 use Rattle.model.specs.State.{State}
-use Rattle.model.specs.Rules.{applicable, applied, step, after, allApplicable}
+use Rattle.model.specs.Rules.{applicable, applied, after, allApplicable}
 use Rattle.model.specs.Plans.{creation, creations}
 use Rattle.model.specs.declared.Rule.{Rule}
 use Rattle.model.specs.declared.Rule.the-variants.{Take, Grant, Create, Remove}
@@ -20,7 +20,7 @@ use Rattle.graph.specs.declared.outcome.Refusal.the-variants.{NotApplicable, Fu
 use Rattle.codec.specs.Reading.{Read, onward}
 use Rattle.codec.specs.Acts.{actAt}
 use Rattle.codec.specs.Replay.{told, performed, performedAt}
-use Rattle.codec.proofs.Subjects.{onward-ok}
+use Rattle.codec.proofs.Inverted.{onward-ok}
 use Rattle.checker.specs.Reading.{rulesAt}
 use Rattle.checker.specs.Right.{Listed}
 use Rattle.checker.proofs.Ways.{ok-same}

@@ -1,11 +1,11 @@
 -- An input is let through exactly if it is right, and a right certificate shows that the right never comes about.
 use mathlib.Core.Path.{_≡_, refl, sym, ap, subst, _∙_}
-use mathlib.Core.Bool.{Bool, true, false, cond}
+use mathlib.Core.Bool.{true, cond}
 use mathlib.Core.List.{List}
-use mathlib.Core.Logic.{_⊎_, inl, inr}
-use Prim.Native.Nat.{ℕ, _<_, _≤_}
+use mathlib.Core.Logic.{inl, inr}
+use Prim.Native.Nat.{ℕ, _≤_}
 use native.Mathlib.Omega.{arith}
-use lib.Dec.{eqb, ltb, T, eqb-refl}
+use lib.Dec.{eqb, ltb, eqb-refl}
 use lib.ListN.{length}
 use Rattle.std.proofs.shelf.Tests.{eqb-true, ltb-false, le-ltb, cond-false, cond-true}
 use Rattle.std.specs.declared.option.Option.{Option}
@@ -14,7 +14,6 @@ use Rattle.std.specs.declared.result.Result.the-variants.{Ok, Err}
 use Rattle.model.specs.State.{State, WellFormed}
 use Rattle.model.specs.Bounded.{only}
 use Rattle.model.specs.Rules.{after}
-use Rattle.model.specs.Certificates.{isRight}
 use Rattle.model.specs.Promise.{longestWitness}
 use Rattle.model.proofs.Tests.{is-true, from-true}
 use Rattle.model.proofs.Laws.{right-shows-never}
@@ -23,8 +22,7 @@ use Rattle.graph.specs.declared.graph.Graph.{Graph}
 use Rattle.graph.proofs.Sound.{well-formed, few-vertices}
 use Rattle.codec.specs.Reading.{Read, byteAt}
 use Rattle.codec.specs.Questions.{narrowBookAt, questionAt}
-use Rattle.checker.specs.FirstFault.{firstFault}
-use Rattle.checker.specs.Reading.{Checked, reading, checking, certificateAt, lengthAt, rulesAt, endAt}
+use Rattle.checker.specs.Reading.{certificateAt, lengthAt, rulesAt, endAt}
 use Rattle.checker.specs.Checked.{hasAsked, verdict, certificateChecked, witnessChecked, answerChecked, checked}
 use Rattle.checker.specs.Right.{Asked, RightWitness, RightCertificate, RightInput, NeverHas}
 use Rattle.checker.specs.declared.fault.CheckFault.{CheckFault}
@@ -32,7 +30,7 @@ use Rattle.checker.specs.declared.fault.CheckFault.the-variants.{Input}
 use Rattle.codec.specs.declared.fault.Fault.the-variants.{UnknownKind}
 use Rattle.codec.specs.declared.fault.Fault.{Fault}
 use Rattle.checker.proofs.Exact.{none-right, right-none}
-use Rattle.checker.proofs.Performed.{Performed, rules-performed, performed-rules}
+use Rattle.checker.proofs.Performed.{rules-performed, performed-rules}
 use Rattle.checker.proofs.Ways.{ok-same, reading-ok, checking-ok, passed, refused-not, one-of, reading-on, checking-on, question-there}
 
 -- What is known of the state of a book that was read.

@@ -1,5 +1,5 @@
 -- What an answer that went well says of its steps, and steps that went well.
-use mathlib.Core.Path.{_≡_, refl, sym, ap, subst, _∙_}
+use mathlib.Core.Path.{_≡_, refl, ap, subst}
 use mathlib.Core.Bool.{Bool, true, false, cond}
 use mathlib.Core.List.{List}
 use mathlib.Core.Logic.{_⊎_, inl, inr}
@@ -14,7 +14,6 @@ use Rattle.codec.specs.Questions.{questionAt}
 use Rattle.codec.specs.declared.fault.Fault.{Fault}
 use Rattle.codec.specs.declared.question.Question.{Question}
 use Rattle.checker.specs.Reading.{Checked, reading, checking}
-use Rattle.checker.specs.declared.fault.CheckFault.{CheckFault}
 
 pub ok-same : {A E : Type 0} (a b : A) → _≡_ {A = Result A E} (Ok a) (Ok b) → a ≡ b
 ok-same a b e = cc

@@ -3,7 +3,7 @@ use mathlib.Core.Path.{_≡_}
 use mathlib.Core.Bool.{Bool, false}
 use mathlib.Core.List.{List, [], _∷_}
 use mathlib.Core.Logic.{_⊎_}
-use Prim.Native.Nat.{ℕ, _+_, _≤_}
+use Prim.Native.Nat.{ℕ, _+_, _<_, _≤_}
 use lib.Dec.{T}
 use lib.ListN.{length}
 use Rattle.std.specs.declared.result.Result.the-variants.{Ok}
@@ -64,6 +64,11 @@ pub record RightCertificate (bs : List ℕ) : Type 0 where
 abbrev pub RightInput : List ℕ → Type 0
 RightInput bs = RightWitness bs ⊎ RightCertificate bs
 
--- The holder has the right after no row of rules, of any length, by any subjects.
+-- After no row of rules, of any length and by any subjects, has one of X the right to one of Y.
+abbrev pub NeverHave : State → (ℕ → Bool) → ℕ → (ℕ → Bool) → Type 0
+NeverHave s X r Y =
+    (x y : ℕ) → x < s .size → y < s .size → T (X x) → T (Y y) → (rules : List Rule) → after s rules .has x r y ≡ false
+
+-- So of the question's holder and target.
 abbrev pub NeverHas : Question → State → Type 0
 NeverHas q s = (rules : List Rule) → hasAsked q (after s rules) ≡ false

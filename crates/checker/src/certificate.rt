@@ -4,13 +4,14 @@ ghost use Rattle.bits.specs.Sets.{holds, Same};
 ghost use Rattle.checker.specs.First.{firstBelow};
 ghost use Rattle.checker.specs.FirstFault.{hasOne, unfitAt, firstFault};
 ghost use Rattle.checker.specs.Looking.{certificate, lookedAt, nothingFound, foundThen, standingFits, takeBroken, grantBroken};
+ghost use Rattle.checker.specs.Right.{NeverHave};
 ghost use Rattle.checker.specs.declared.fault.CheckFault.the-variants.{UnfitRight};
 ghost use Rattle.graph.specs.Graphs.{state};
 ghost use Rattle.model.specs.Bounded.{only};
 ghost use Rattle.model.specs.Certificates.{vertexFits, isRight};
 ghost use Rattle.std.specs.Options.{isSome, orOther, whenTrue};
 ghost use lib.Dec.{T};
-ghost use mathlib.Core.Bool.{Bool, _&&_, _||_, not};
+ghost use mathlib.Core.Bool.{Bool, _&&_, _||_, false, not};
 ghost use mathlib.Core.Path.{_≡_};
 use crate::fault::CheckFault;
 use bits::VertexSet;
@@ -53,9 +54,10 @@ impl Claim {
 }
 
 impl Certificate {
-    // The first fault of the certificate for this claim.
+    // The first fault of the certificate for this claim. None exactly if it is right, and then the claim is true.
     pub fn first_fault(&self, graph: &Graph, claim: &Claim) -> Option<CheckFault>
         ensures right { λ r. ⌜ not (isSome r) ≡ isRight (state (now (graph .entry))) (holds (now (claim .entry) .holders)) (now (claim .entry) .right) (holds (now (claim .entry) .targets)) (certificate (now (self .entry))) ⌝ }
+        ensures never { λ r. ⌜ (isSome r ≡ false → NeverHave (state (now (graph .entry))) (holds (now (claim .entry) .holders)) (now (claim .entry) .right) (holds (now (claim .entry) .targets))) ⌝ }
         ensures value { λ r. ⌜ r ≡ firstFault (state (now (graph .entry))) (holds (now (claim .entry) .holders)) (now (claim .entry) .right) (holds (now (claim .entry) .targets)) (certificate (now (self .entry))) ⌝ }
     {
         let mut looked = Looked::nothing();

@@ -19,5 +19,10 @@ pub mod Plan
 pub mod Taking
 pub mod Exchange
 pub mod Witnesses
+pub mod ExactChoices
+pub mod ExactSteps
+pub mod ExactBridge
+pub mod ExactWitness
+pub mod ExactLaws
 pub mod Examples
 pub mod Laws

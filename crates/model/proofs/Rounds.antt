@@ -112,7 +112,7 @@ module _ (n : ℕ) (e : ℕ → ℕ → Bool) where
           }
 
   -- One more round holds what the round before holds.
-  round-grows : (k x y : ℕ) → T (within k n e x y) → T (within (suc k) n e x y)
+  pub round-grows : (k x y : ℕ) → T (within k n e x y) → T (within (suc k) n e x y)
   unfolding within
   round-grows zero x y t = left (eqb x y) _ t
   round-grows (suc k) x y t =

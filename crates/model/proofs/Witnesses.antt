@@ -59,7 +59,7 @@ module _ (by : ℕ → Bool) (b : State) (acts : (p : ℕ) → T (isSubject b p)
       ]
 
 -- The bound of the whole: n to take from the holder, a bridge at most n - 1 times, and n + 1 to grant at the end.
-pub longest : ℕ → ℕ
+unfoldable pub longest : ℕ → ℕ
 longest n = n + ((n - 1) * (2 * n + 4) + (n + 1))
 
 module _ (by : ℕ → Bool) (b : State) (acts : (p : ℕ) → T (isSubject b p) → T (by p)) (x r y : ℕ) where

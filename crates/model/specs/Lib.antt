@@ -15,3 +15,5 @@ pub mod Certified
 pub mod Promise
 pub mod Near
 pub mod Examples
+pub mod Exact
+pub mod Exactly

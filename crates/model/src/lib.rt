@@ -7,6 +7,7 @@ pub use theorems::bridges_exchange;
 pub use theorems::certificates_decide;
 pub use theorems::closures_complete;
 pub use theorems::connected_both_ways;
+pub use theorems::exact_witness;
 pub use theorems::examples_hold;
 pub use theorems::promise;
 pub use theorems::promise_for_some;

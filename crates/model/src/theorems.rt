@@ -10,6 +10,7 @@ ghost use Rattle.model.specs.Readings.{ClosureComplete, ClosureIs, ClosedIs, S
 ghost use Rattle.model.specs.NothingNew.{StayWellFormed, NothingNew, NothingEverNew, RulesLeave, RemovingTakesAway, RetiringTakesAway, PathsUnchanged};
 ghost use Rattle.model.specs.Certified.{ShowsNever, NoIsCertified, CertificateDecides, CertificateLeast, GottenFromOut, InnerAreSubjects};
 ghost use Rattle.model.specs.Promise.{Promise, PromiseFor, RestrictedRows};
+ghost use Rattle.model.specs.Exactly.{ExactIsWitness};
 ghost use Rattle.model.specs.Near.{byTakingAlone, objectsActing, givenByHolder, rightByTakes, Refuted, Fooled};
 ghost use Rattle.model.specs.Examples.{WorkedExamples, ObjectsAreGranted};
 
@@ -75,6 +76,11 @@ pub fn certificates_decide()
 // The promise: what can be shared has a witness, and what cannot never comes about.
 pub fn promise()
     ensures { λ _. ⌜ Promise canShare ⌝ }
+{}
+
+// The exact witness, of which every choice is laid down, is a witness wherever there is one.
+pub fn exact_witness()
+    ensures { λ _. ⌜ ExactIsWitness ⌝ }
 {}
 
 // Rules of some subjects alone, and of what they create, bring about exactly what can be shared once all others are objects.

@@ -1,6 +1,5 @@
 use mathlib.Core.Path.{_≡_, sym, ap, _∙_}
 use Rattle.std.proofs.shelf.Results.{err-from-errBy}
-use Rattle.graph.specs.Graphs.{state}
 use Rattle.checker.specs.Reading.{reading}
 use Rattle.checker.specs.Checked.{answerChecked, checked}
 use Rattle.checker.proofs.Shown.{opened-none, opened-graph, input-right, right-passes, certificate-never}

@@ -1,5 +1,4 @@
 use mathlib.Core.Path.{sym, ap, _∙_}
-use lib.Dec.{T}
 use Rattle.model.proofs.Tests.{from-true}
 use Rattle.std.specs.Options.{whenTrue}
 use Rattle.checker.proofs.First.{none-first, first-at}

@@ -1,5 +1,4 @@
-use borrow.Author.Needs.{needs}
-use mathlib.Core.Path.{_≡_, ap, _∙_}
+use mathlib.Core.Path.{ap, _∙_}
 use mathlib.Core.Bool.{not, _&&_}
 use Rattle.bits.specs.Sets.{holds}
 use Rattle.checker.proofs.Conditions.{one-held}

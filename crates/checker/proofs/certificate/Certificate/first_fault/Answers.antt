@@ -3,7 +3,10 @@ use mathlib.Core.Bool.{not}
 use Rattle.std.specs.Options.{isSome}
 use native.Mathlib.Omega.{arith}
 use Rattle.bits.specs.Sets.{holds}
+use Rattle.model.proofs.Tests.{from-true}
+use Rattle.model.proofs.Laws.{right-shows-never}
 use Rattle.graph.specs.Graphs.{state}
+use Rattle.graph.proofs.Sound.{well-formed}
 use Rattle.checker.specs.Looking.{certificate}
 use Rattle.checker.proofs.Exact.{exact}
 use Rattle.checker.proofs.Looking.{looked-none, looked-more, looked-all}
@@ -23,4 +26,10 @@ returns c =
     let Y = holds (c .args .claim .now .targets) in
     let sets = certificate (c .args .self .now) in
     let value = looked-all s X r Y sets (c .loop-p .p) _ _ (omega (arith, c .size-p-end .ensures .value)) (c .loop-p .inv) (c .first .ensures) in
-    record { right = ap (λ o. not (isSome o)) value ∙ sym (exact s X r Y sets); value = value }
+    let right = ap (λ o. not (isSome o)) value ∙ sym (exact s X r Y sets) in
+    record {
+      right = right;
+      never = λ none x y hx hy mx my.
+          right-shows-never s (well-formed (c .args .graph .now)) X r Y sets (from-true _ (sym right ∙ ap not none)) x y hx hy mx my .never;
+      value = value;
+    }
