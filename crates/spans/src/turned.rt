@@ -21,9 +21,7 @@ pub fn enter(sets: &mut [VertexSet; SETS], targets: VertexSet, x: Vertex)
     let mut rest = targets;
     while let Some(y) = rest.lowest() {
         rest.remove(y);
-        let mut set = sets[y as usize];
-        set.insert(x);
-        sets[y as usize] = set;
+        sets[y as usize].insert(x);
     }
 }
 
