@@ -83,6 +83,37 @@ fn read_book(b: &[u8], at: &mut usize) -> Result<Graph, Fault> {
     Ok(Graph { size, subjects, rows })
 }
 
+enum Rule {
+    Take { who: u8, from: u8, right: u8, to: u8 },
+    Grant { who: u8, into: u8, right: u8, to: u8 },
+    Create { who: u8, subject: bool, rights: u8 },
+    Remove { who: u8, right: u8, to: u8 },
+}
+
+enum Refusal {
+    NotApplicable,
+    Full,
+}
+
+fn read_act(b: &[u8], at: &mut usize, n: u8) -> Result<Rule, Fault> {
+    let start = *at;
+    match byte(b, at)? {
+        2 => Ok(Rule::Take { who: below(b, at, n)?, from: below(b, at, n)?, right: below(b, at, 8)?, to: below(b, at, n)? }),
+        3 => Ok(Rule::Grant { who: below(b, at, n)?, into: below(b, at, n)?, right: below(b, at, 8)?, to: below(b, at, n)? }),
+        4 => {
+            let who = below(b, at, n)?;
+            let subject = match byte(b, at)? {
+                0 => false,
+                1 => true,
+                _ => return Err((1, *at - 1)),
+            };
+            Ok(Rule::Create { who, subject, rights: byte(b, at)? })
+        }
+        5 => Ok(Rule::Remove { who: below(b, at, n)?, right: below(b, at, 8)?, to: below(b, at, n)? }),
+        _ => Err((1, start)),
+    }
+}
+
 impl Graph {
     fn has(&self, p: u8, r: u8, q: u8) -> bool {
         self.rows[8 * p as usize + r as usize].has(q)
@@ -90,51 +121,54 @@ impl Graph {
     fn add(&mut self, p: u8, r: u8, q: u8) {
         self.rows[8 * p as usize + r as usize].put(q)
     }
-    fn act(&mut self, b: &[u8], at: &mut usize, number: usize) -> Result<(), Fault> {
-        let n = self.size;
-        let kind = byte(b, at)?;
-        match kind {
-            2 | 3 => {
-                let (p, y, r, z) = (below(b, at, n)?, below(b, at, n)?, below(b, at, 8)?, below(b, at, n)?);
-                let (from, to) = if kind == 2 { (y, p) } else { (p, y) };
-                if !(self.subjects.has(p) && self.has(p, kind - 2, y) && self.has(from, r, z)) {
-                    return Err((4, number));
+    fn apply(&mut self, rule: Rule) -> Result<(), Refusal> {
+        match rule {
+            Rule::Take { who, from, right, to } => {
+                if !(self.subjects.has(who) && self.has(who, 0, from) && self.has(from, right, to)) {
+                    return Err(Refusal::NotApplicable);
                 }
-                self.add(to, r, z);
+                self.add(who, right, to);
             }
-            4 => {
-                let p = below(b, at, n)?;
-                let acting = byte(b, at)?;
-                if acting > 1 {
-                    return Err((1, *at - 1));
+            Rule::Grant { who, into, right, to } => {
+                if !(self.subjects.has(who) && self.has(who, 1, into) && self.has(who, right, to)) {
+                    return Err(Refusal::NotApplicable);
                 }
-                let rights = byte(b, at)?;
-                if !self.subjects.has(p) {
-                    return Err((4, number));
+                self.add(into, right, to);
+            }
+            Rule::Create { who, subject, rights } => {
+                if !self.subjects.has(who) {
+                    return Err(Refusal::NotApplicable);
                 }
-                if n == 255 {
-                    return Err((5, number));
+                let new = self.size;
+                if new == 255 {
+                    return Err(Refusal::Full);
                 }
                 self.size += 1;
-                if acting == 1 {
-                    self.subjects.put(n);
+                if subject {
+                    self.subjects.put(new);
                 }
                 for r in 0..8 {
                     if rights >> r & 1 == 1 {
-                        self.add(p, r, n);
+                        self.add(who, r, new);
                     }
                 }
             }
-            5 => {
-                let (p, r, z) = (below(b, at, n)?, below(b, at, 8)?, below(b, at, n)?);
-                if !self.subjects.has(p) {
-                    return Err((4, number));
+            Rule::Remove { who, right, to } => {
+                if !self.subjects.has(who) {
+                    return Err(Refusal::NotApplicable);
                 }
-                self.rows[8 * p as usize + r as usize].cut(z);
+                self.rows[8 * who as usize + right as usize].cut(to);
             }
-            _ => return Err((1, *at - 1)),
         }
         Ok(())
+    }
+    fn act(&mut self, b: &[u8], at: &mut usize, number: usize) -> Result<(), Fault> {
+        let rule = read_act(b, at, self.size)?;
+        match self.apply(rule) {
+            Ok(()) => Ok(()),
+            Err(Refusal::NotApplicable) => Err((4, number)),
+            Err(Refusal::Full) => Err((5, number)),
+        }
     }
     fn bytes(&self) -> Vec<u8> {
         let width = if self.size > 128 { 32 } else { 16 };
