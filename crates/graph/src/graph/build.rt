@@ -31,6 +31,17 @@ impl Graph {
         })
     }
 
+    // The same graph again, to work on.
+    pub fn copy(&self) -> Graph
+        ensures value { λ g. ⌜ state g ≡ state (now (self .entry)) ⌝ }
+    {
+        Graph {
+            size: self.size,
+            subjects: self.subjects,
+            rows: self.rows,
+        }
+    }
+
     // `p` has right `r` to `q` from now on. False, and nothing is changed, if one of them isn't there.
     pub fn give(&mut self, p: Vertex, r: Right, q: Vertex) -> bool
         ensures value { λ a. ⌜ a ≡ (ltb p (state (now (self .entry)) .size) && (ltb r 8 && ltb q (state (now (self .entry)) .size))) ⌝ }

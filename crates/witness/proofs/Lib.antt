@@ -1,0 +1,14 @@
+pub mod Lowest
+pub mod Layers
+pub mod Walked
+pub mod Relation
+pub mod Gathered
+pub mod Bridging
+pub mod Vertices
+pub mod Choosing
+pub mod Performed
+pub mod Going
+pub mod Acted
+pub mod Along
+pub mod Crossing
+pub mod Exactly

@@ -1,0 +1,5 @@
+pub mod Rows
+pub mod Beside
+pub mod Of
+pub mod Plans
+pub mod Answers
