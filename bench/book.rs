@@ -229,10 +229,11 @@ fn input(acts: usize) -> Vec<u8> {
     let mut done = 0;
     while done < acts {
         let (p, y, r, z) = (next(50) as u8 * 2, next(100) as u8, next(8) as u8, next(100) as u8);
-        let act = match next(3) {
-            0 => vec![2, p, y, r, z],
-            1 => vec![3, p, y, r, z],
-            _ => vec![5, p, r, z],
+        // Few removals, and none of take or grant, so that takes and grants stay possible.
+        let act = match next(10) {
+            0 => vec![5, p, 2 + r % 6, z],
+            k if k % 2 == 1 => vec![2, p, y, r, z],
+            _ => vec![3, p, y, r, z],
         };
         if g.act(&act, &mut 0, 0).is_ok() {
             out.extend(act);
