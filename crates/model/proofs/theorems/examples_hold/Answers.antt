@@ -7,8 +7,8 @@ returns c =
     record {
       table = worked_examples;
       granted = objects_are_granted;
-      taking-alone = taking_alone_refuted;
-      objects-acting = objects_acting_refuted;
-      given-by-holder = given_by_holder_refuted;
-      takes-alone = by_takes_fooled;
+      taking_alone = taking_alone_refuted;
+      objects_acting = objects_acting_refuted;
+      given_by_holder = given_by_holder_refuted;
+      takes_alone = by_takes_fooled;
     }
