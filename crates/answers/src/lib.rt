@@ -1,4 +1,6 @@
 // Questions about a book from bytes, and their answers as they are printed.
+#![tactic(auto)]
+
 mod ask;
 mod error;
 mod record;

@@ -1,4 +1,5 @@
 // Sets of vertices as bits: the sets themselves, and tables with a row of words for each vertex.
+#![tactic(auto)]
 
 mod big_endian;
 mod block;

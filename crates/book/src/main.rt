@@ -1,4 +1,6 @@
 // book: reads a book and acts, and prints the book after them, or the first fault.
+#![tactic(auto)]
+
 use anyhow::anyhow;
 use codec::{ReplayError, replay};
 use console::{Request, Writes};

@@ -1,4 +1,6 @@
 // A graph that changes, with its rows of take paths: after each rule only those rows are worked out anew that the rule can have changed.
+#![tactic(auto)]
+
 mod kept;
 mod renewal;
 mod rows;

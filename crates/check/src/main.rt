@@ -1,4 +1,6 @@
 // check: reads a book, a question and an answer, and prints `right`, or the first fault.
+#![tactic(auto)]
+
 use anyhow::anyhow;
 use checker::check;
 use console::{Request, Writes};

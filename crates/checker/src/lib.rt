@@ -1,4 +1,6 @@
 // The checker: is an answer right, whoever wrote it? It reads, looks and applies rules, and finds no paths.
+#![tactic(auto)]
+
 mod answer;
 mod certificate;
 mod fault;

@@ -1,4 +1,6 @@
 // The bytes of books and acts: reading, with the first fault and its place, and writing.
+#![tactic(auto)]
+
 mod act;
 mod book;
 mod fault;

@@ -1,4 +1,6 @@
 // What the programs share: their arguments, their input, and a file that they write.
+#![tactic(auto)]
+
 use anyhow::anyhow;
 use std::fs::File;
 use std::io::Read;

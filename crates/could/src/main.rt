@@ -1,6 +1,8 @@
 // could: reads a book and questions, with acts among them if so asked, and prints yes or no to each, with plans and sheets in a file if one is named;
 // or how many could have what.
 // The first fault is told instead.
+#![tactic(auto)]
+
 use answers::{AskError, sharing_table};
 use anyhow::anyhow;
 use console::{Request, Writes};

@@ -1,4 +1,6 @@
 // A book, and then acts and questions in any order, from bytes: each question is answered of the book as it is then.
+#![tactic(auto)]
+
 mod ask;
 mod turn;
 

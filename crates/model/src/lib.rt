@@ -1,5 +1,6 @@
 // The take-grant protection model: its rules as values, and its theorems as contracts.
 // What a rule means, and when it may be applied, stands in specs/; this crate knows nothing of bytes or of how a graph is stored.
+#![tactic(auto)]
 
 mod theorems;
 

@@ -1,4 +1,6 @@
 // Who can come to have which right to what, worked out for a whole graph at once.
+#![tactic(auto)]
+
 mod front;
 mod search;
 mod sharing;

@@ -1,4 +1,6 @@
 // Who reaches what in a graph: rows of take paths, spans, and the islands of connected subjects.
+#![tactic(auto)]
+
 mod barrier;
 mod closure;
 mod links;

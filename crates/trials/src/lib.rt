@@ -1,4 +1,5 @@
 // Tests of the byte formats, on examples and on damaged inputs. They stand apart from the crates that they test, so that those are proved once only.
+#![tactic(auto)]
 
 #[cfg(test)]
 mod tests;

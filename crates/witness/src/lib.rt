@@ -1,4 +1,6 @@
 // Witnesses: for a question whose answer is yes, the acts that bring the right about, exactly.
+#![tactic(auto)]
+
 mod answer;
 mod choose;
 mod ends;

@@ -7,7 +7,7 @@ loop-i-init c = (refl, read_none c.args.bytes.now 4)
 
 pub loop-i-preserved : goal.loop-i-preserved
 loop-i-preserved c =
-    (omega arith, read_more c.args.bytes.now c.loop-i.words c.add-byte.new.words c.loop-i.i (omega arith) c.add-byte.ensures c.loop-i.invariant.1)
+    (omega arith, read_more c.args.bytes.now c.loop-i.words c.add_byte.new.words c.loop-i.i (omega arith) c.add_byte.ensures c.loop-i.invariant.1)
 
 pub returns : goal.returns
 returns c = read_all c.args.bytes.now c.loop-i.words c.loop-i.i (omega arith) c.loop-i.invariant.1

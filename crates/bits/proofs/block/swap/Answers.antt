@@ -3,8 +3,8 @@ use Rattle.bits.specs.Rows.{cell}
 use Rattle.bits.proofs.Blocks.{swapped_none, swapped_more, swapped_all}
 use Rattle.bits.proofs.block.swap.Goals as goal
 
-pub swap-strips-requires : goal.swap-strips-requires
-swap-strips-requires g c =
+pub swap_strips-requires : goal.swap_strips-requires
+swap_strips-requires g c =
     let more = mul-add (2 * g.row.J) c.loop-b.b 1 in
     let most : 2 * g.row.J * (c.loop-b.b + 1) ≤ 2 * g.row.J * c.args.n = mul-le-mul_left (2 * g.row.J) (omega (arith, c.loop-b-test.true)) in
     let fits : 2 * g.row.J * c.loop-b.b + 2 * g.row.J ≤ 64 = omega (arith, c.requires) in
@@ -16,8 +16,8 @@ loop-b-init g c = swapped_none g.row.J (64 * g.row.W) (cell c.args.block.now g.r
 
 pub loop-b-preserved : goal.loop-b-preserved
 loop-b-preserved g c =
-    swapped_more g.row.J g.row.W c.args.mask (cell c.args.block.now g.row.W) (cell c.loop-b.block g.row.W) (cell c.swap-strips.new.block g.row.W) c.loop-b.b c.requires.1.1
-    c.swap-strips.ensures c.loop-b.invariant
+    swapped_more g.row.J g.row.W c.args.mask (cell c.args.block.now g.row.W) (cell c.loop-b.block g.row.W) (cell c.swap_strips.new.block g.row.W) c.loop-b.b c.requires.1.1
+    c.swap_strips.ensures c.loop-b.invariant
 
 pub returns : goal.returns
 returns g c =

@@ -10,8 +10,8 @@ pub loop-w-init : goal.loop-w-init
 unfolding count_below
 loop-w-init c = refl
 
-pub overflow-add-n : goal.overflow-add-n
-overflow-add-n c =
+pub overflow_add-n : goal.overflow_add-n
+overflow_add-n c =
     let w : ℕ = get_or c.args.words.now c.loop-w.w-index 0 in
     let small : w < 2 ^ 64 = omega arith in
     let before : c.loop-w.n ≡ count_below (64 * c.loop-w.w-index) (member c.args.words.now) = c.loop-w.invariant in

@@ -10,11 +10,11 @@ loop-i-init c = refl
 pub loop-i-preserved : goal.loop-i-preserved
 loop-i-preserved c =
     within_more c.args.words.now c.args.other.now c.loop-i.i
-    ∙ ap₂ (λ a b. a && b) c.loop-i.invariant (sym c.if-not-is-within.ensures)
+    ∙ ap₂ (λ a b. a && b) c.loop-i.invariant (sym c.if-not-is_within.ensures)
 
-pub returns-then-not-is-within : goal.returns-then-not-is-within
-returns-then-not-is-within c = λ n f e h.
-    sym (within_fails c.args.words.now c.args.other.now c.loop-i.i (omega arith) (sym c.if-not-is-within.ensures))
+pub returns-then-not-is_within : goal.returns-then-not-is_within
+returns-then-not-is_within c = λ n f e h.
+    sym (within_fails c.args.words.now c.args.other.now c.loop-i.i (omega arith) (sym c.if-not-is_within.ensures))
     ∙ within_all c.args.words.now c.args.other.now n f e h
 
 pub returns : goal.returns

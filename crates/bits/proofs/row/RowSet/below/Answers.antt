@@ -15,7 +15,7 @@ pub loop-i-preserved : goal.loop-i-preserved
 loop-i-preserved g c = (
   length-set c.loop-i.words c.loop-i.i _ ∙ c.loop-i.invariant.0,
   made_more (λ k. ltb k c.args.n) c.loop-i.words c.loop-i.i _ (omega arith)
-      (λ j h. c.first-bits.ensures j h ∙ (ap (λ m. ltb j m) c.saturating-sub.ensures ∙ shifted j c.args.n c.loop-i.i))
+      (λ j h. c.first_bits.ensures j h ∙ (ap (λ m. ltb j m) c.saturating_sub.ensures ∙ shifted j c.args.n c.loop-i.i))
       c.loop-i.invariant.1,
 )
 
@@ -26,5 +26,5 @@ returns g c = λ k.
     let fits = c.requires.0 in
     grind (arith, nat_tests)
 
-pub invariant-of-result : goal.invariant-of-result
-invariant-of-result g c = (c.loop-i.invariant.0, tt)
+pub invariant_of-result : goal.invariant_of-result
+invariant_of-result g c = record { size = c.loop-i.invariant.0 }

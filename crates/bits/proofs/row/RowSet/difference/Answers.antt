@@ -18,5 +18,5 @@ pub returns : goal.returns
 unfolding among
 returns g c = joined_all (λ a b. a && not b) _ _ _ c.loop-i.i refl (omega arith) (omega arith) c.loop-i.invariant.1
 
-pub invariant-of-result : goal.invariant-of-result
-invariant-of-result g c = (c.loop-i.invariant.0, tt)
+pub invariant_of-result : goal.invariant_of-result
+invariant_of-result g c = record { size = c.loop-i.invariant.0 }

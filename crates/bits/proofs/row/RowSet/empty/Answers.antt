@@ -8,5 +8,5 @@ pub returns : goal.returns
 unfolding among
 returns g c = λ k. member_zeros g.row.W k
 
-pub invariant-of-result : goal.invariant-of-result
-invariant-of-result g c = (length-replicate {A = ℕ} g.row.W 0, tt)
+pub invariant_of-result : goal.invariant_of-result
+invariant_of-result g c = record { size = length-replicate {A = ℕ} g.row.W 0 }

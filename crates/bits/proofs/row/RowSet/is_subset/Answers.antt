@@ -4,4 +4,4 @@ use Rattle.bits.proofs.row.RowSet.is_subset.Goals as goal
 
 pub returns : goal.returns
 unfolding among
-returns g c = c.is-subset.ensures _ _ (omega arith) (λ k. refl)
+returns g c = c.is_subset.ensures _ _ (omega arith) (λ k. refl)

@@ -42,8 +42,8 @@ loop-i-preserved g c =
       )
     ]
 
-pub invariant-of-result : goal.invariant-of-result
-invariant-of-result g c = (c.loop-i.invariant.0, tt)
+pub invariant_of-result : goal.invariant_of-result
+invariant_of-result g c = record { size = c.loop-i.invariant.0 }
 
 pub returns : goal.returns
 unfolding among

@@ -7,7 +7,7 @@ pub loop-i-init : goal.loop-i-init
 loop-i-init g c = written_none c.args.rows.now g.row.W c.args.x c.args.self.now.words
 
 pub loop-i-preserved : goal.loop-i-preserved
-loop-i-preserved g c = written_more c.args.rows.now g.row.W c.args.x c.args.self.now.words _ _ c.loop-i.i c.row-put.ensures c.loop-i.invariant
+loop-i-preserved g c = written_more c.args.rows.now g.row.W c.args.x c.args.self.now.words _ _ c.loop-i.i c.row_put.ensures c.loop-i.invariant
 
 pub returns : goal.returns
 unfolding among
