@@ -5,22 +5,16 @@ use Rattle.graph.specs.Table.{in_row, in_table}
 use Rattle.graph.proofs.States.{state_with, fit_with}
 use Rattle.graph.proofs.graph.Graph.add.Goals as goal
 
-pub invariant-of-self : goal.invariant-of-self
+pub invariant_of-self : goal.invariant_of-self
 unfolding state in_row
-invariant-of-self c = (
-  c.args.self.now.some,
-  (
-    c.args.self.now.few,
-    (
-      c.args.self.now.acting,
-      (
-        fit_with c.args.self.now.size c.args.self.now.rows c.args.p c.args.r c.args.q c.row.result c.insert.new.self
-            c.args.self.now.held c.row.ensures c.requires.1.0 (search rules) c.requires.0 c.requires.1.1 c.insert.ensures,
-        tt,
-      ),
-    ),
-  ),
-)
+invariant_of-self c = 
+    record {
+      some = c.args.self.now.some;
+      few = c.args.self.now.few;
+      acting = c.args.self.now.acting;
+      held = fit_with c.args.self.now.size c.args.self.now.rows c.args.p c.args.r c.args.q c.row.result c.insert.new.self
+        c.args.self.now.held c.row.ensures c.requires.1.0 (search rules) c.requires.0 c.requires.1.1 c.insert.ensures;
+    }
 
 pub returns : goal.returns
 unfolding state in_row

@@ -7,17 +7,17 @@ use Rattle.graph.specs.Table.{in_table}
 use Rattle.graph.proofs.Created.{new_subject, new_object}
 use Rattle.graph.proofs.graph.Graph.grow.Goals as goal
 
-pub overflow-add-self : goal.overflow-add-self
+pub overflow_add-self : goal.overflow_add-self
 unfolding state
-overflow-add-self c = search rules
+overflow_add-self c = search rules
 
-pub invariant-of-self : goal.invariant-of-self
+pub invariant_of-self : goal.invariant_of-self
 unfolding state
-invariant-of-self c = search rules
+invariant_of-self c = search rules
 
-pub invariant-of-self-else-subject : goal.invariant-of-self-else-subject
+pub invariant_of-self-else-subject : goal.invariant_of-self-else-subject
 unfolding state
-invariant-of-self-else-subject c = search rules
+invariant_of-self-else-subject c = search rules
 
 one_more : (n : ℕ) (f f' : ℕ → Bool) (h : ℕ → ℕ → ℕ → Bool) → ((k : ℕ) → f k ≡ f' k) → ◌≡◌ {A = State} (record { size = n + 1; subject = f; has = h }) (record { size = suc n; subject = f'; has = h })
 one_more n f f' h e = ap₂ (λ m g. record { size = m; subject = g; has = h }) (add-one n) (fun_ext e)

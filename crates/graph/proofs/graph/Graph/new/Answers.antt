@@ -13,7 +13,7 @@ use Rattle.graph.specs.Table.{in_row, in_table, SubjectsFit}
 use Rattle.graph.proofs.Rows.{bare_row, bare_table}
 use Rattle.graph.proofs.States.{same_state}
 use Rattle.graph.proofs.graph.Graph.new.Goals as goal
-use Rattle.graph.proofs.graph.Graph.new.Goals.{then-size-eq0-via-then-size-eq0, then-size-eq0-via-else-size-eq0+then-not-is-subset}
+use Rattle.graph.proofs.graph.Graph.new.Goals.{then-size-eq0-via-then-size-eq0, then-size-eq0-via-else-size-eq0+then-not-is_subset}
 
 module _ (subjects all : VertexSet) (n : ℕ) (r : Bool) (below : (k : ℕ) → holds all k ≡ ltb k n) (is : r ≡ all_below 256 (λ k. implies (holds subjects k) (holds all k))) where
   fit : r ≡ true → SubjectsFit n subjects
@@ -32,21 +32,18 @@ returns-then-size-eq0 c =
     record {
       cases = λ f. elim c.then-size-eq0.branch [
         | then-size-eq0-via-then-size-eq0 w ↦ omega (arith, f.0, w.if-size-eq0.true)
-        | then-size-eq0-via-else-size-eq0+then-not-is-subset w ↦ both_ways w.is-subset.result w.if-not-is-subset.true (fit_test c.args.subjects w.below.result c.args.size w.is-subset.result w.below.ensures w.is-subset.ensures f.1)
+        | then-size-eq0-via-else-size-eq0+then-not-is_subset w ↦ both_ways w.is_subset.result w.if-not-is_subset.true (fit_test c.args.subjects w.below.result c.args.size w.is_subset.result w.below.ensures w.is_subset.ensures f.1)
       ];
     }
 
-pub invariant-of-result : goal.invariant-of-result
-invariant-of-result c = (
-  omega (arith, c.if-size-eq0.false),
-  (
-    search rules,
-    (
-      fit c.args.subjects c.below.result c.args.size c.is-subset.result c.below.ensures c.is-subset.ensures c.if-not-is-subset.false,
-      ((λ i q t. absurd (subst T (bare_row c.empty-rows.result c.empty-rows.ensures 2048 i q) t)), tt),
-    ),
-  ),
-)
+pub invariant_of-result : goal.invariant_of-result
+invariant_of-result c = 
+    record {
+      some = omega (arith, c.if-size-eq0.false);
+      few = search rules;
+      acting = fit c.args.subjects c.below.result c.args.size c.is_subset.result c.below.ensures c.is_subset.ensures c.if-not-is_subset.false;
+      held = (λ i q t. absurd (subst T (bare_row c.empty-rows.result c.empty-rows.ensures 2048 i q) t));
+    }
 
 pub returns : goal.returns
 unfolding state

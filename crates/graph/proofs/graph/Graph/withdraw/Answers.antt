@@ -5,22 +5,16 @@ use Rattle.graph.specs.Table.{in_row, in_table}
 use Rattle.graph.proofs.States.{state_without, fit_without, nothing_there}
 use Rattle.graph.proofs.graph.Graph.withdraw.Goals as goal
 
-pub invariant-of-self : goal.invariant-of-self
+pub invariant_of-self : goal.invariant_of-self
 unfolding state in_row
-invariant-of-self c = (
-  c.args.self.now.some,
-  (
-    c.args.self.now.few,
-    (
-      c.args.self.now.acting,
-      (
-        fit_without c.args.self.now.size c.args.self.now.rows c.args.p c.args.r c.args.q c.row.result c.remove.new.self
-            c.args.self.now.held c.row.ensures c.if-r-lt-RIGHTS.true (search rules) c.requires c.remove.ensures,
-        tt,
-      ),
-    ),
-  ),
-)
+invariant_of-self c = 
+    record {
+      some = c.args.self.now.some;
+      few = c.args.self.now.few;
+      acting = c.args.self.now.acting;
+      held = fit_without c.args.self.now.size c.args.self.now.rows c.args.p c.args.r c.args.q c.row.result c.remove.new.self
+        c.args.self.now.held c.row.ensures c.if-r-lt-RIGHTS.true (search rules) c.requires c.remove.ensures;
+    }
 
 pub returns-then-r-lt-RIGHTS : goal.returns-then-r-lt-RIGHTS
 unfolding state in_row
