@@ -1,10 +1,10 @@
 -- Islands: the subjects inside the least barrier round a subject are those that are connected with it.
-use Rattle.std.proofs.Common.{◌≡◌, ℕ, true, ◌&&◌, T, refl, subst, eqb→eq}
+use Rattle.std.proofs.Common.{◌≡◌, ℕ, T, refl, subst, eqb→eq}
 use lib.Dec.{eqb_refl}
 use Rattle.model.specs.State.{State, WellFormed, is_subject}
 use Rattle.model.specs.Bounded.{only}
 use Rattle.model.specs.Closure.{here}
-use Rattle.model.specs.Spans.{Joins, over, connected, Connected, Grants, itself, through, InitialSpan}
+use Rattle.model.specs.Spans.{over, connected, Connected, Grants, itself, through, InitialSpan}
 use Rattle.model.specs.Certificates.{inner_of}
 use Rattle.model.proofs.Tests.{same}
 use Rattle.model.proofs.Stars.{append, one_step}

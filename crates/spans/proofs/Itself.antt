@@ -1,5 +1,5 @@
 -- A vertex added to a set if it is a subject.
-use Rattle.std.proofs.Common.{◌≡◌, Bool, true, false, ◌&&◌, ◌||◌, ◌∙◌, arith}
+use Rattle.std.proofs.Common.{◌≡◌, Bool, true, false, ◌&&◌, ◌||◌, arith}
 use Rattle.std.proofs.lemmas.Bool.Decides.{nat_tests}
 
 pub with_itself : (a set next acts : Bool) → next ≡ (a || set) → true ≡ acts → next ≡ ((a && acts) || set)

@@ -1,10 +1,10 @@
 -- The search for a barrier: what was found belongs to it, and what was looked at is closed under single rights.
-use Rattle.std.proofs.Common.{◌≡◌, ℕ, ◌+◌, ◌<◌, ◌≤◌, Bool, true, false, not, ◌&&◌, ◌||◌, T, eqb, ◌⊎◌, sym, refl, ap, ◌∙◌, subst, inl, inr, arith, eqb→eq}
+use Rattle.std.proofs.Common.{◌≡◌, ℕ, Bool, false, ◌&&◌, ◌||◌, T, eqb, ◌⊎◌, sym, ap, ◌∙◌, subst, inl, inr, eqb→eq}
 use lib.Dec.{eqb_refl}
 use Rattle.model.specs.State.{State, WellFormed, is_subject, take_right, grant_right}
 use Rattle.model.specs.Bounded.{only}
 use Rattle.model.specs.Spans.{can_take, can_grant}
-use Rattle.model.specs.Certificates.{Certificate, inner_of, out_of, into_of, certificate_of}
+use Rattle.model.specs.Certificates.{inner_of, out_of, into_of, certificate_of}
 use Rattle.model.proofs.Tests.{both, parts, cases, left, right, same, eq_test}
 use Rattle.model.proofs.Readings.{subject_vertex}
 use Rattle.model.proofs.Right.{Closed}

@@ -1,29 +1,28 @@
-use Rattle.std.proofs.Common.{◌≡◌, ℕ, ◌*◌, ◌<◌, ◌≤◌, T, ◌∙◌, arith, rules}
+use Rattle.std.proofs.Common.{◌*◌, arith}
 use Rattle.bits.specs.Rows.{cell}
 use Rattle.bits.specs.Sets.{holds}
 use Rattle.bits.proofs.Cell.{rows_apart}
-use Rattle.model.specs.Spans.{can_take}
 use Rattle.graph.specs.Graphs.{state}
 use Rattle.graph.proofs.Sound.{target_below}
-use Rattle.spans.proofs.Closing.{begun_none, begun_more, begun_all}
+use Rattle.spans.proofs.Closing.{begun_more, begun_all}
 use Rattle.spans.proofs.closure.begin.Goals as goal
 
-pub row-add-requires : goal.row-add-requires
-row-add-requires g c =
+pub row_add-requires : goal.row_add-requires
+row_add-requires g c =
     let fit = rows_apart c.loop-x.x (state c.args.graph.now).size g.row.W (omega (arith, c.size-x-end.ensures.value)) in
     (omega (arith, c.requires), c.requires.1.1)
 
-pub row-insert-requires : goal.row-insert-requires
-row-insert-requires g c =
+pub row_insert-requires : goal.row_insert-requires
+row_insert-requires g c =
     let fit = rows_apart c.loop-x.x (state c.args.graph.now).size g.row.W (omega (arith, c.size-x-end.ensures.value)) in
     (omega (arith, c.requires), omega (arith, c.requires, c.size-x-end.ensures.value))
 
 pub loop-x-preserved : goal.loop-x-preserved
 loop-x-preserved g c =
-    begun_more (state c.args.graph.now) (cell c.args.rows.now g.row.W) (cell c.loop-x.rows g.row.W) (cell c.row-add.new.rows g.row.W)
-    (cell c.row-insert.new.rows g.row.W) c.loop-x.x (64 * g.row.W) (holds c.targets.result)
+    begun_more (state c.args.graph.now) (cell c.args.rows.now g.row.W) (cell c.loop-x.rows g.row.W) (cell c.row_add.new.rows g.row.W)
+    (cell c.row_insert.new.rows g.row.W) c.loop-x.x (64 * g.row.W) (holds c.targets.result)
     (λ y t. let l = target_below c.args.graph.now c.loop-x.x 0 y t in omega (arith, c.requires))
-    c.targets.ensures.value c.row-add.ensures c.row-insert.ensures c.loop-x.invariant
+    c.targets.ensures.value c.row_add.ensures c.row_insert.ensures c.loop-x.invariant
 
 pub returns : goal.returns
 returns g c =

@@ -10,7 +10,7 @@ use Rattle.spans.proofs.closure.lead.Goals as goal
 pub returns : goal.returns
 returns g c = λ x y.
     let begun : cell c.begin.new.rows g.row.W ≡ step_from (state c.args.graph.now) =
-    fun_ext (λ a. fun_ext (λ b. c.begin.ensures a b ∙ ap (λ t. t || step_from (state c.args.graph.now) a b) (c.requires.1 a b))) in
+    fun_ext (λ a. fun_ext (λ b. c.begin.ensures a b ∙ ap (λ t. t || step_from (state c.args.graph.now) a b) (c.requires.by_index a b))) in
     c.close.ensures x y
     ∙ ap₂ (λ n e. rounds n e n x y) c.size.ensures.value begun
     ∙ rounds_lead (state c.args.graph.now) (well_formed-law c.args.graph.now) x y

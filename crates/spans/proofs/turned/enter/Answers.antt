@@ -23,4 +23,4 @@ loop-y-smaller c = fewer (holds c.loop-y.rest) (holds c.remove.new.self) c.in-So
 pub returns : goal.returns
 returns c =
     entered_all (in_row c.args.sets.now) (holds c.args.targets) c.args.x (in_row c.loop-y.sets) (holds c.loop-y.rest)
-    c.in-default.ensures c.loop-y.invariant.1
+    c.in_default.ensures c.loop-y.invariant.1

@@ -1,9 +1,9 @@
-use Rattle.std.proofs.Common.{◌≡◌, ℕ, arith}
+use Rattle.std.proofs.Common.{◌≡◌, arith}
 use Rattle.graph.specs.Graphs.{state}
 use Rattle.graph.specs.Table.{in_row}
 use Rattle.graph.proofs.Rows.{bare_row}
 use Rattle.graph.proofs.Sound.{holder_below}
-use Rattle.spans.proofs.Entered.{Turning, turning_none, turning_all}
+use Rattle.spans.proofs.Entered.{turning_none, turning_all}
 use Rattle.spans.proofs.turned.holders.Goals as goal
 
 pub loop-x-init : goal.loop-x-init

@@ -6,18 +6,18 @@ use Rattle.spans.specs.Of.{linked}
 use Rattle.spans.proofs.Itself.{with_itself, without_itself}
 use Rattle.spans.proofs.links.Links.with_subject.Goals as goal
 
-pub returns-then-is-subject : goal.returns-then-is-subject
-returns-then-is-subject c =
+pub returns-then-is_subject : goal.returns-then-is_subject
+returns-then-is_subject c =
     record {
       value = λ q.
           with_itself (eqb q c.args.p) (holds c.args.set q) _ (is_subject (linked c.args.self.now) c.args.p) (c.insert.ensures q)
-          (c.if-is-subject.ensures.value ∙ only_subjects c.args.self.now.graph.now c.args.p);
+          (c.if-is_subject.ensures.value ∙ only_subjects c.args.self.now.graph.now c.args.p);
     }
 
-pub returns-else-is-subject : goal.returns-else-is-subject
-returns-else-is-subject c =
+pub returns-else-is_subject : goal.returns-else-is_subject
+returns-else-is_subject c =
     record {
       value = λ q.
           without_itself (eqb q c.args.p) (holds c.args.set q) (is_subject (linked c.args.self.now) c.args.p)
-          (c.if-is-subject.ensures.value ∙ only_subjects c.args.self.now.graph.now c.args.p);
+          (c.if-is_subject.ensures.value ∙ only_subjects c.args.self.now.graph.now c.args.p);
     }

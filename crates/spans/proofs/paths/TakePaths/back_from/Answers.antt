@@ -1,4 +1,4 @@
-use Rattle.std.proofs.Common.{◌≡◌, ℕ, sym, ap, ◌∙◌, subst, arith}
+use Rattle.std.proofs.Common.{◌≡◌, sym, ap, ◌∙◌, subst, arith}
 use Rattle.bits.specs.Sets.{holds}
 use Rattle.spans.specs.Of.{spanned}
 use Rattle.spans.specs.Paths.{back_from}

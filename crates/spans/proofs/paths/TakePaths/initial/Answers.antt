@@ -9,6 +9,6 @@ returns c =
     record {
       value = λ q.
           c.intersection.ensures q
-          ∙ ap₂ (λ a b. a && b) (c.subjects.ensures.value q ∙ only_subjects c.args.self.now.graph.now q) (c.back-from.ensures.value q)
+          ∙ ap₂ (λ a b. a && b) (c.subjects.ensures.value q ∙ only_subjects c.args.self.now.graph.now q) (c.back_from.ensures.value q)
           ∙ initial_is (spanned c.args.self.now) q c.args.x;
     }

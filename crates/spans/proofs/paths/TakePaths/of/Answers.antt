@@ -1,7 +1,7 @@
-use Rattle.std.proofs.Common.{◌≡◌, ◌&&◌, ltb, refl, ap, ◌∙◌, ap₂, arith, rules}
+use Rattle.std.proofs.Common.{◌&&◌, ltb, ap, ◌∙◌, ap₂, arith, rules}
 use Rattle.bits.specs.Rows.{cell}
 use Rattle.graph.specs.Graphs.{state}
-use Rattle.spans.specs.Paths.{row_words, path_from}
+use Rattle.spans.specs.Paths.{row_words}
 use Rattle.spans.proofs.Wide.{words_most, rows_within}
 use Rattle.spans.proofs.Spanning.{path_vertex}
 use Rattle.spans.proofs.paths.TakePaths.of.Goals as goal
@@ -12,16 +12,14 @@ turn-back-requires c =
     let most = words_most c.size-n.result in
     (search rules, omega (arith, c.width.ensures))
 
-pub invariant-of-result : goal.invariant-of-result
-invariant-of-result c =
-    let s = state c.args.graph.now in (
-      c.rows-of-rows.ensures,
-      (
-        (λ y x.
-            c.turn-back.ensures y x
-            ∙ ap₂ (λ n w. ltb x n && cell c.rows-of-rows.result w x y) c.size-n.ensures.value (c.width.ensures ∙ ap row_words c.size-n.ensures.value)
-            ∙ ap (λ b. ltb x s.size && b) (c.rows-of-rows.ensures x y)
-            ∙ path_vertex s x y),
-        tt,
-      ),
-    )
+pub invariant_of-result : goal.invariant_of-result
+invariant_of-result c =
+    let s = state c.args.graph.now in
+    record {
+      led = c.rows_of-rows.ensures;
+      reached = λ y x.
+          c.turn-back.ensures y x
+          ∙ ap₂ (λ n w. ltb x n && cell c.rows_of-rows.result w x y) c.size-n.ensures.value (c.width.ensures ∙ ap row_words c.size-n.ensures.value)
+          ∙ ap (λ b. ltb x s.size && b) (c.rows_of-rows.ensures x y)
+          ∙ path_vertex s x y;
+    }

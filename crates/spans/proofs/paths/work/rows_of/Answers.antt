@@ -6,11 +6,17 @@ use Rattle.spans.proofs.paths.work.rows_of.Goals as goal
 
 pub lead-requires : goal.lead-requires
 lead-requires c =
-    ((omega (arith, c.size.ensures.value), (omega (arith, c.size.ensures.value), omega arith)), λ x y. cell_zeros 1024 2 x y)
+    record {
+      graph_in_bounds = (omega (arith, c.size.ensures.value), (omega (arith, c.size.ensures.value), omega arith));
+      by_index = λ x y. cell_zeros 1024 2 x y;
+    }
 
 pub lead-requires-else-size-le128 : goal.lead-requires-else-size-le128
 lead-requires-else-size-le128 c =
-    ((omega (arith, c.size.ensures.value), (omega (arith, c.size.ensures.value), omega arith)), λ x y. cell_zeros 1024 4 x y)
+    record {
+      graph_in_bounds = (omega (arith, c.size.ensures.value), (omega (arith, c.size.ensures.value), omega arith));
+      by_index = λ x y. cell_zeros 1024 4 x y;
+    }
 
 pub returns-then-size-le128 : goal.returns-then-size-le128
 returns-then-size-le128 c = λ x y.

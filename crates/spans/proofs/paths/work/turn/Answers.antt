@@ -5,8 +5,8 @@ use Rattle.graph.proofs.Rows.{bare_row}
 use Rattle.spans.proofs.Entered.{turning_none}
 use Rattle.spans.proofs.paths.work.turn.Goals as goal
 
-pub row-set-requires : goal.row-set-requires
-row-set-requires c =
+pub row_set-requires : goal.row_set-requires
+row_set-requires c =
     let fit = rows_apart c.loop-x.x c.args.n c.args.w (omega arith) in
     (omega (arith, c.requires), c.requires.1)
 
