@@ -1,8 +1,7 @@
 -- The bytes of books: a kind, the number of vertices, who of them acts as bits, and for each vertex its rights.
-use Rattle.std.specs.Prelude.{ℕ, zero, suc, ◌+◌, ◌-◌, ◌*◌, ◌/◌, ◌%◌, ◌^◌, Bool, true, false, cond, ◌&&◌, List, [], ◌∷◌, ◌++◌, take, drop, Ok, Err, Result, ◌==◌, nat_le, nat_lt}
-use Rattle.bits.specs.Sets.{holds, in_bytes, set_bytes}
+use Rattle.std.specs.Prelude.{ℕ, zero, suc, ◌+◌, ◌-◌, ◌*◌, ◌^◌, Bool, cond, ◌&&◌, List, take, drop, Ok, Err, Result, ◌==◌, nat_le, nat_lt}
+use Rattle.bits.specs.Sets.{holds, in_bytes}
 use Rattle.bits.specs.declared.set.VertexSet.{VertexSet}
-use Rattle.model.specs.Bounded.{count_below}
 use Rattle.model.specs.State.{State}
 use Rattle.model.specs.Rules.{given}
 use Rattle.graph.specs.Graphs.{bare, state}

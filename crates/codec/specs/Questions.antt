@@ -1,5 +1,5 @@
 -- The bytes of questions, and of the books that they are about.
-use Rattle.std.specs.Prelude.{ℕ, Bool, cond, List, Ok, Err, ◌==◌}
+use Rattle.std.specs.Prelude.{ℕ, cond, List, Ok, Err, ◌==◌}
 use Rattle.model.specs.State.{State}
 use Rattle.codec.specs.declared.question.Question.{Question}
 use Rattle.codec.specs.declared.fault.Fault.TheVariants.{UnknownKind}

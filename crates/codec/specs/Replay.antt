@@ -1,5 +1,5 @@
 -- A book and acts to the end of the input: the book after them, or the first fault.
-use Rattle.std.specs.Prelude.{◌≡◌, ℕ, zero, suc, ◌+◌, Bool, cond, List, length, Ok, Err, Result, nat_lt}
+use Rattle.std.specs.Prelude.{ℕ, zero, suc, ◌+◌, cond, List, length, Ok, Err, Result, nat_lt}
 use Rattle.model.specs.State.{State}
 use Rattle.model.specs.Rules.{applied}
 use Rattle.model.specs.declared.Rule.{Rule}

@@ -1,4 +1,4 @@
-use Rattle.std.proofs.Common.{◌≡◌, ℕ, ◌/◌, ◌^◌, ◌<◌, ◌≤◌, true, false, eqb, ltb, sym, refl, ap, ◌∙◌, inl, inr, le-div_iff_mul-le, arith, pow_pos, pow_mono, eq-eqb, ne_eqb}
+use Rattle.std.proofs.Common.{◌≡◌, ℕ, ◌/◌, ◌^◌, ◌≤◌, eqb, ltb, sym, ◌∙◌, inl, inr, le-div_iff_mul-le, arith, pow_pos, pow_mono, eq-eqb, ne_eqb}
 use native.Mathlib.Nat.{div-eq_of_lt}
 use Rattle.std.proofs.lemmas.Bool.{cases_lt, lt-ltb, le-ltb, le-leb}
 use Rattle.codec.proofs.book.fits.Goals as goal

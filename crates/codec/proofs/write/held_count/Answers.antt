@@ -1,5 +1,4 @@
-use Rattle.std.proofs.Common.{◌≡◌, ℕ, ◌+◌, ◌/◌, ◌%◌, ◌≤◌, false, List, [], ◌∷◌, ◌++◌, vec_items, sym, refl, ap, ◌∙◌, ap₂, append-nil, arith, rules}
-use mathlib.Core.Path.{fun_ext}
+use Rattle.std.proofs.Common.{◌≡◌, ◌+◌, refl, ap, ◌∙◌, arith}
 use Rattle.graph.specs.Graphs.{state}
 use Rattle.bits.specs.Sets.{holds}
 use Rattle.bits.proofs.Below.{count_le}
@@ -13,8 +12,8 @@ pub loop-r-init : goal.loop-r-init
 unfolding count_held
 loop-r-init c = (refl, omega arith)
 
-pub overflow-add-count : goal.overflow-add-count
-overflow-add-count c = let k = count_le 256 (holds c.targets.result) in omega (arith, k, c.count-count.ensures, c.loop-r.invariant.1, c.loop-r-test.true)
+pub overflow_add-count : goal.overflow_add-count
+overflow_add-count c = let k = count_le 256 (holds c.targets.result) in omega (arith, k, c.count-count.ensures, c.loop-r.invariant.1, c.loop-r-test.true)
 
 pub loop-r-preserved : goal.loop-r-preserved
 loop-r-preserved c =

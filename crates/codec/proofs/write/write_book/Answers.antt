@@ -10,12 +10,12 @@ pub loop-p-init : goal.loop-p-init
 unfolding vertices_bytes
 loop-p-init c =
     let head = head_bytes (state c.args.graph.now) in
-    c.in-ok-write-head.ensures ∙ (ap (λ t. t ++ head) c.new-out.ensures.items ∙ sym (append-nil head))
+    c.in_ok-write_head.ensures ∙ (ap (λ t. t ++ head) c.new-out.ensures.items ∙ sym (append-nil head))
 
 pub loop-p-preserved : goal.loop-p-preserved
 loop-p-preserved c =
     let s = state c.args.graph.now in
-    behind (head_bytes s) (vertices_bytes s c.loop-p.p) (vertex_bytes s c.loop-p.p) c.loop-p.invariant c.in-ok-write-vertex.ensures ∙ ap (λ t. head_bytes s ++ t) (sym (vertices_more s c.loop-p.p))
+    behind (head_bytes s) (vertices_bytes s c.loop-p.p) (vertex_bytes s c.loop-p.p) c.loop-p.invariant c.in_ok-write_vertex.ensures ∙ ap (λ t. head_bytes s ++ t) (sym (vertices_more s c.loop-p.p))
 
 pub returns : goal.returns
 unfolding book_bytes

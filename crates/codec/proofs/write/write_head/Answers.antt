@@ -1,5 +1,4 @@
-use Rattle.std.proofs.Common.{◌≡◌, ℕ, ◌+◌, ◌/◌, ◌%◌, List, [], ◌∷◌, ◌++◌, take, drop, vec_items, sym, refl, ap, ◌∙◌, ap₂, append-nil, arith, rules}
-use mathlib.Core.Path.{fun_ext}
+use Rattle.std.proofs.Common.{vec_items}
 use Rattle.graph.specs.Graphs.{state}
 use Rattle.bits.specs.Sets.{holds}
 use Rattle.codec.specs.Writing.{head_bytes}
@@ -9,11 +8,11 @@ use Rattle.codec.proofs.write.write_head.Goals as goal
 pub returns-then-size-le128 : goal.returns-then-size-le128
 returns-then-size-le128 c =
     let s = state c.args.graph.now in
-    wrote_same c.write-both.result (vec_items c.args.out.now) (vec_items c.write-both.new.out) _ (head_bytes s)
-    (head_narrow s c.size-size.result c.size-size.ensures.value c.if-size-le128.true (holds c.subjects.result) c.subjects.ensures.value c.to-be-bytes-subjects.result c.to-be-bytes-subjects.ensures) c.write-both.ensures
+    wrote_same c.write_both.result (vec_items c.args.out.now) (vec_items c.write_both.new.out) _ (head_bytes s)
+    (head_narrow s c.size-size.result c.size-size.ensures.value c.if-size-le128.true (holds c.subjects.result) c.subjects.ensures.value c.to_be_bytes-subjects.result c.to_be_bytes-subjects.ensures) c.write_both.ensures
 
 pub returns-else-size-le128 : goal.returns-else-size-le128
 returns-else-size-le128 c =
     let s = state c.args.graph.now in
-    wrote_same c.write-both-else-size-le128.result (vec_items c.args.out.now) (vec_items c.write-both-else-size-le128.new.out) _ (head_bytes s)
-    (head_wide s c.size-size.result c.size-size.ensures.value c.if-size-le128.false (holds c.subjects.result) c.subjects.ensures.value c.to-be-bytes-subjects.result c.to-be-bytes-subjects.ensures) c.write-both-else-size-le128.ensures
+    wrote_same c.write_both-else-size-le128.result (vec_items c.args.out.now) (vec_items c.write_both-else-size-le128.new.out) _ (head_bytes s)
+    (head_wide s c.size-size.result c.size-size.ensures.value c.if-size-le128.false (holds c.subjects.result) c.subjects.ensures.value c.to_be_bytes-subjects.result c.to_be_bytes-subjects.ensures) c.write_both-else-size-le128.ensures

@@ -1,5 +1,4 @@
-use Rattle.std.proofs.Common.{◌≡◌, ℕ, ◌+◌, ◌/◌, ◌%◌, List, [], ◌∷◌, ◌++◌, vec_items, sym, refl, ap, ◌∙◌, ap₂, append-nil, arith, rules}
-use mathlib.Core.Path.{fun_ext}
+use Rattle.std.proofs.Common.{◌≡◌, ◌++◌, vec_items, sym, ap, ◌∙◌, append-nil, arith}
 use Rattle.graph.specs.Graphs.{state}
 use Rattle.bits.specs.Sets.{holds}
 use Rattle.codec.specs.Writing.{held_bytes, row_bytes}
@@ -13,7 +12,7 @@ loop-r-init c = sym (append-nil (vec_items c.args.out.now))
 pub loop-r-preserved : goal.loop-r-preserved
 loop-r-preserved c =
     let s = state c.args.graph.now in
-    behind (vec_items c.args.out.now) (held_bytes s c.args.p c.loop-r.r) (row_bytes c.loop-r.r (holds c.targets.result) c.size.result) c.loop-r.invariant c.in-ok-write-row.ensures ∙
+    behind (vec_items c.args.out.now) (held_bytes s c.args.p c.loop-r.r) (row_bytes c.loop-r.r (holds c.targets.result) c.size.result) c.loop-r.invariant c.in_ok-write_row.ensures ∙
     ap (λ t. vec_items c.args.out.now ++ t)
     (ap (λ n. held_bytes s c.args.p c.loop-r.r ++ row_bytes c.loop-r.r (holds c.targets.result) n) c.size.ensures.value ∙ sym (held_more s c.args.p c.loop-r.r (holds c.targets.result) c.targets.ensures.value))
 

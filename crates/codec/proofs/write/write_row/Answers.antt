@@ -1,11 +1,9 @@
-use Rattle.std.proofs.Common.{◌≡◌, ℕ, ◌+◌, ◌/◌, ◌%◌, List, [], ◌∷◌, ◌++◌, vec_items, sym, refl, ap, ◌∙◌, ap₂, append-nil, arith, rules}
-use mathlib.Core.Path.{fun_ext}
-use Rattle.graph.specs.Graphs.{state}
+use Rattle.std.proofs.Common.{◌≡◌, [], ◌∷◌, ◌++◌, vec_items, sym, ap, ◌∙◌, append-nil, arith}
 use Rattle.bits.specs.Sets.{holds}
 use Rattle.codec.specs.Writing.{row_bytes}
 use Rattle.codec.proofs.Written.{row_more, row_skip, behind}
 use Rattle.codec.proofs.write.write_row.Goals as goal
-use Rattle.codec.proofs.write.write_row.Goals.{then-contains+in-ok-write, else-contains}
+use Rattle.codec.proofs.write.write_row.Goals.{then-contains+in_ok-write, else-contains}
 
 pub loop-q-init : goal.loop-q-init
 unfolding row_bytes
@@ -14,9 +12,9 @@ loop-q-init c = sym (append-nil (vec_items c.args.out.now))
 pub loop-q-preserved : goal.loop-q-preserved
 loop-q-preserved c =
     elim c.if-contains.branch [
-      | then-contains+in-ok-write w ↦
+      | then-contains+in_ok-write w ↦
           ap vec_items w.out-is ∙
-          (behind (vec_items c.args.out.now) (row_bytes c.args.r (holds c.args.targets.now) c.loop-q.q) (c.args.r ∷ c.loop-q.q ∷ []) c.loop-q.invariant w.in-ok-write.ensures ∙
+          (behind (vec_items c.args.out.now) (row_bytes c.args.r (holds c.args.targets.now) c.loop-q.q) (c.args.r ∷ c.loop-q.q ∷ []) c.loop-q.invariant w.in_ok-write.ensures ∙
           ap (λ t. vec_items c.args.out.now ++ t) (sym (row_more c.args.r (holds c.args.targets.now) c.loop-q.q (sym c.contains.ensures ∙ w.if-contains.true))))
       | else-contains w ↦
           ap vec_items w.out-is ∙
