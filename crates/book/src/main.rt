@@ -18,7 +18,7 @@ example: book chamber.book day.acts > chamber.new
 ";
 
 fn main(rt: HostRuntime) -> anyhow::Result<()> {
-    console::end(&rt, "book", run(&rt))
+    run(&rt)
 }
 
 fn run(rt: &HostRuntime) -> anyhow::Result<()> {
@@ -34,7 +34,7 @@ fn print_after(rt: &HostRuntime, files: &[String]) -> anyhow::Result<()> {
         Ok(book) => Ok(rt.stdout().write_all(&book)?),
         Err(ReplayError::Input(fault)) => {
             println!(rt; "{} {}", fault.number(), fault.place())?;
-            Err(anyhow!(format!(in rt.alloc(); "{fault}")?))
+            Err(anyhow!("{fault}"))
         }
         Err(ReplayError::NoMemory) => Err(anyhow!("there is not enough memory")),
     }

@@ -32,12 +32,12 @@ pub fn read_request(rt: &HostRuntime, writes: Writes) -> anyhow::Result<Request>
         if names_output {
             names_output = false;
             output = Some(arg);
-        } else if arg == "-h" || arg == "--help" {
+        } else if arg.as_str() == "-h" || arg.as_str() == "--help" {
             return Ok(Request::Help);
-        } else if arg == "-o" && writes == Writes::File {
+        } else if arg.as_str() == "-o" && writes == Writes::File {
             names_output = true;
         } else if arg.starts_with("-") {
-            return Err(no_option(rt, &arg)?);
+            return Err(anyhow!("there is no option {arg}; --help says how to use this program"));
         } else {
             files.push(arg)?;
         }
@@ -46,12 +46,6 @@ pub fn read_request(rt: &HostRuntime, writes: Writes) -> anyhow::Result<Request>
         return Err(anyhow!("-o wants the name of a file; --help says how to use this program"));
     }
     Ok(Request::Run { files, output })
-}
-
-fn no_option(rt: &HostRuntime, arg: &String) -> anyhow::Result<anyhow::Error> {
-    Ok(format!(in rt.alloc();
-        "there is no option {arg}; --help says how to use this program"
-    )?.into())
 }
 
 // Room for most inputs, so that they aren't moved as they grow. Memory that isn't written to costs nothing.
@@ -65,7 +59,7 @@ pub fn read_input(rt: &HostRuntime, files: &[String]) -> anyhow::Result<Vec<u8>>
     }
     for file in files {
         if let Err(e) = read_file(rt, file, &mut input) {
-            return Err(anyhow!(format!(in rt.alloc(); "{file} can't be read: {e}")?));
+            return Err(anyhow!("{file} can't be read: {e}"));
         }
     }
     Ok(input)
@@ -80,15 +74,7 @@ fn read_file(rt: &HostRuntime, file: &String, input: &mut Vec<u8>) -> io::Result
 // Writes a file that the command line names.
 pub fn write_output(rt: &HostRuntime, file: &String, bytes: &[u8]) -> anyhow::Result<()> {
     if let Err(e) = fs::write(rt, file.as_str(), bytes) {
-        return Err(anyhow!(format!(in rt.alloc(); "{file} can't be written: {e}")?));
+        return Err(anyhow!("{file} can't be written: {e}"));
     }
     Ok(())
-}
-
-// The end of a program: what went wrong is told in a line on standard error. The error is handed on, so that the status is 1.
-pub fn end(rt: &HostRuntime, program: &str, res: anyhow::Result<()>) -> anyhow::Result<()> {
-    if let Err(error) = &res {
-        eprintln!(rt; "{program}: {error}")?;
-    }
-    res
 }

@@ -37,7 +37,7 @@ enum Asked {
 }
 
 fn main(rt: HostRuntime) -> anyhow::Result<()> {
-    console::end(&rt, "could", run(&rt))
+    run(&rt)
 }
 
 fn run(rt: &HostRuntime) -> anyhow::Result<()> {
@@ -112,7 +112,7 @@ fn tell(rt: &HostRuntime, error: AskError) -> anyhow::Result<()> {
     match error {
         AskError::Input(fault) => {
             println!(rt; "{} {}", fault.number(), fault.place())?;
-            Err(anyhow!(format!(in rt.alloc(); "{fault}")?))
+            Err(anyhow!("{fault}"))
         }
         AskError::NoMemory => Err(anyhow!("there is not enough memory")),
     }

@@ -19,7 +19,7 @@ example: check chamber.book one.question one.answer
 ";
 
 fn main(rt: HostRuntime) -> anyhow::Result<()> {
-    console::end(&rt, "check", run(&rt))
+    run(&rt)
 }
 
 fn run(rt: &HostRuntime) -> anyhow::Result<()> {
@@ -35,7 +35,7 @@ fn print_verdict(rt: &HostRuntime, files: &[String]) -> anyhow::Result<()> {
         Ok(()) => Ok(rt.println("right")?),
         Err(fault) => {
             println!(rt; "{} {}", fault.number(), fault.place())?;
-            Err(anyhow!(format!(in rt.alloc(); "{fault}")?))
+            Err(anyhow!("{fault}"))
         }
     }
 }
