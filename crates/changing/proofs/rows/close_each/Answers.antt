@@ -7,7 +7,7 @@ use Rattle.changing.proofs.rows.close_each.Goals as goal
 use Rattle.changing.proofs.rows.close_each.Goals.{then-contains, else-contains}
 
 pub loop-k-init : goal.loop-k-init
-loop-k-init c = (closing_none (holds c.args.set) (cell c.args.rows.now 4), c.requires.1)
+loop-k-init c = (closing_none (holds c.args.set) (cell c.args.rows.now 4), c.requires.shut)
 
 pub loop-k-preserved : goal.loop-k-preserved
 loop-k-preserved c =

@@ -3,7 +3,7 @@ use Rattle.bits.specs.Rows.{cell}
 use Rattle.bits.specs.Sets.{holds}
 use Rattle.changing.proofs.Gathered.{Listed, listed_none, listed_more, listed_skip}
 use Rattle.changing.proofs.rows.holding.Goals as goal
-use Rattle.changing.proofs.rows.holding.Goals.{then-row-contains, else-row-contains}
+use Rattle.changing.proofs.rows.holding.Goals.{then-row_contains, else-row_contains}
 
 pub loop-v-init : goal.loop-v-init
 loop-v-init c = listed_none _ (holds c.empty-found.result) c.empty-found.ensures
@@ -11,13 +11,13 @@ loop-v-init c = listed_none _ (holds c.empty-found.result) c.empty-found.ensures
 pub loop-v-preserved : goal.loop-v-preserved
 loop-v-preserved c =
     let test : ℕ → Bool = λ v. cell c.args.rows.now 4 v c.args.k in
-    elim c.if-row-contains.branch [
-      | then-row-contains w ↦
+    elim c.if-row_contains.branch [
+      | then-row_contains w ↦
           subst (λ f. Listed test (holds f) (c.loop-v.v + 1)) (sym w.found-is)
-          (listed_more test (holds c.loop-v.found) (holds w.insert.new.self) c.loop-v.v w.if-row-contains.ensures w.insert.ensures c.loop-v.invariant)
-      | else-row-contains w ↦
+          (listed_more test (holds c.loop-v.found) (holds w.insert.new.self) c.loop-v.v w.if-row_contains.ensures w.insert.ensures c.loop-v.invariant)
+      | else-row_contains w ↦
           subst (λ f. Listed test (holds f) (c.loop-v.v + 1)) (sym w.found-is)
-          (listed_skip test (holds c.loop-v.found) c.loop-v.v w.if-row-contains.ensures c.loop-v.invariant)
+          (listed_skip test (holds c.loop-v.found) c.loop-v.v w.if-row_contains.ensures c.loop-v.invariant)
     ]
 
 pub returns : goal.returns

@@ -15,11 +15,11 @@ loop-w-smaller c =
 
 pub loop-w-preserved : goal.loop-w-preserved
 loop-w-preserved c =
-    united_more c.args.into (holds c.args.set) (cell c.args.rows.now 4) (cell c.loop-w.rows 4) (cell c.row-union.new.rows 4)
+    united_more c.args.into (holds c.args.set) (cell c.args.rows.now 4) (cell c.loop-w.rows 4) (cell c.row_union.new.rows 4)
     (holds c.loop-w.rest) (holds c.remove.new.self) c.in-Some.w (omega arith) c.requires.1
-    (from_true (holds c.loop-w.rest c.in-Some.w) c.in-Some.ensures.0) c.remove.ensures c.row-union.ensures c.loop-w.invariant
+    (from_true (holds c.loop-w.rest c.in-Some.w) c.in-Some.ensures.0) c.remove.ensures c.row_union.ensures c.loop-w.invariant
 
 pub returns : goal.returns
 returns c =
     united_all c.args.into (holds c.args.set) (cell c.args.rows.now 4) (cell c.loop-w.rows 4) (holds c.loop-w.rest)
-    c.in-default.ensures c.loop-w.invariant
+    c.in_default.ensures c.loop-w.invariant

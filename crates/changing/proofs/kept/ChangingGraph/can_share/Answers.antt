@@ -19,7 +19,7 @@ returns-else-has c =
     let g = c.args.self.now.graph in
     record {
       value =
-          c.one-has.ensures.value
-          ∙ shared_by_out (tracked c.args.self.now) (well_formed-law g) (few_vertices g) c.args.x c.args.r c.args.y (holds c.out-of.result)
-          (omega (arith, c.size.ensures.value)) c.if-has.ensures.value c.out-of.ensures.value;
+          c.one_has.ensures.value
+          ∙ shared_by_out (tracked c.args.self.now) (well_formed-law g) (few_vertices g) c.args.x c.args.r c.args.y (holds c.out_of.result)
+          (omega (arith, c.size.ensures.value)) c.if-has.ensures.value c.out_of.ensures.value;
     }

@@ -19,4 +19,4 @@ loop-o-smaller c =
     fewer (holds c.loop-o.rest) (holds c.remove.new.self) c.in-Some.o c.remove.ensures 256 (omega arith) c.in-Some.ensures.0
 
 pub returns : goal.returns
-returns c = record { value = gathered_all _ _ (holds c.loop-o.all) (holds c.loop-o.rest) c.in-default.ensures c.loop-o.invariant }
+returns c = record { value = gathered_all _ _ (holds c.loop-o.all) (holds c.loop-o.rest) c.in_default.ensures c.loop-o.invariant }

@@ -32,4 +32,4 @@ returns-then-has c =
 
 pub returns : goal.returns
 unfolding of_some
-returns c = record { value = gathered_all _ _ (λ _. false) (holds c.loop-t.rest) c.in-default.ensures c.loop-t.invariant c.args.y }
+returns c = record { value = gathered_all _ _ (λ _. false) (holds c.loop-t.rest) c.in_default.ensures c.loop-t.invariant c.args.y }

@@ -17,8 +17,8 @@ loop-entries-init c =
     (holds c.insert.new.self) c.empty-out.ensures
     (λ p. c.insert.ensures p ∙ or_false (eqb p c.args.x) _ (c.empty-holder.ensures p)) c.givers-entries.ensures.value
 
-pub returns-then-is-empty : goal.returns-then-is-empty
-returns-then-is-empty c =
+pub returns-then-is_empty : goal.returns-then-is_empty
+returns-then-is_empty c =
     let g = c.args.self.now.graph in
     let out = holds c.loop-entries.out in
     record {
@@ -27,13 +27,13 @@ returns-then-is-empty c =
           (holds c.reached.result) (holds c.difference-fresh.result) c.loop-entries.invariant
           (λ q. c.difference-others.ensures q ∙ ap (λ b. b && not (out q)) (c.subjects.ensures.value q ∙ only_subjects g q))
           c.reached.ensures.value c.difference-fresh.ensures
-          (none_fresh (holds c.difference-fresh.result) (holds_below c.difference-fresh.result) c.if-is-empty.ensures);
+          (none_fresh (holds c.difference-fresh.result) (holds_below c.difference-fresh.result) c.if-is_empty.ensures);
     }
 
 pub loop-entries-smaller : goal.loop-entries-smaller
 loop-entries-smaller c =
     fewer_left (holds c.loop-entries.out) (holds c.reached.result) (holds c.difference-fresh.result) (holds c.union-out.result)
-    c.difference-fresh.ensures c.union-out.ensures c.if-is-empty.ensures
+    c.difference-fresh.ensures c.union-out.ensures c.if-is_empty.ensures
 
 pub loop-entries-preserved : goal.loop-entries-preserved
 loop-entries-preserved c =

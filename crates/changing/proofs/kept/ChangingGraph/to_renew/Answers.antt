@@ -24,17 +24,17 @@ returns-in-Create c =
     record {
       value = λ v.
           c.insert.ensures v
-          ∙ ap₂ (λ n b. eqb v n || b) c.size.ensures.value (c.changed-paths-rows.ensures.value v)
+          ∙ ap₂ (λ n b. eqb v n || b) c.size.ensures.value (c.changed_paths-rows.ensures.value v)
           ∙ sym (ap (λ k. (k && eqb v s.size) || (changes_take s a && path_from s v (changed a))) (ap creates c.in-Create.is));
     }
 
-pub returns-in-default : goal.returns-in-default
+pub returns-in_default : goal.returns-in_default
 unfolding renews
-returns-in-default c =
+returns-in_default c =
     let s = tracked c.args.self.now in
     let a = c.args.rule in
     record {
       value = λ v.
-          c.changed-paths-rows.ensures.value v
-          ∙ sym (ap (λ k. (k && eqb v s.size) || (changes_take s a && path_from s v (changed a))) (no_creation a c.in-default.not-Create));
+          c.changed_paths-rows.ensures.value v
+          ∙ sym (ap (λ k. (k && eqb v s.size) || (changes_take s a && path_from s v (changed a))) (no_creation a c.in_default.not-Create));
     }
