@@ -17,8 +17,8 @@ returns-then-has c =
     subst (λ (rules : List Rule). Planned b rules (0, 0) c.args.free.now c.args.free.now)
     (sym (none_needed b c.args.x c.args.r c.args.y c.if-has.ensures.value)) (record { bytes = refl; count = refl; written = refl; room = omega arith; performed = tt })
 
-pub returns-in-err-carry : goal.returns-in-err-carry
-returns-in-err-carry c =
+pub returns-in_err-carry : goal.returns-in_err-carry
+returns-in_err-carry c =
     let a = c.args in
     let b = state a.graph.now in
     let e = c.exact-ends.result in
@@ -27,9 +27,9 @@ returns-in-err-carry c =
     let rules =
     ap (λ (v : Work). v.rules) (work_is b s a.x a.r a.y e.holder e.last e.first c.of-routes.ensures.value f.holder f.last f.first)
     ∙ sym (witness_is b a.x a.r a.y c.if-has.ensures.value) in
-    rw (err_from_is_err_and c.from-residual.result c.from-residual.ensures.1).1
+    rw (err_from_is_err_and c.from_residual.result c.from_residual.ensures.1).1
     (subst (λ (z : List Rule). T (performable b z) → length (acts_bytes z) ≤ length a.free.now → ⊥) rules
-    (c.in-err-carry.ensures.goes b (begun b) a.free.now (c.of-plan.ensures a.free.now)))
+    (c.in_err-carry.ensures.goes b (begun b) a.free.now (c.of-plan.ensures a.free.now)))
 
 pub returns : goal.returns
 returns c =
@@ -41,7 +41,7 @@ returns c =
     let rules =
     ap (λ (v : Work). v.rules) (work_is b s a.x a.r a.y e.holder e.last e.first c.of-routes.ensures.value f.holder f.last f.first)
     ∙ sym (witness_is b a.x a.r a.y c.if-has.ensures.value) in
-    let at = c.in-ok-carry.ensures.goes b (begun b) a.free.now (c.of-plan.ensures a.free.now) in
+    let at = c.in_ok-carry.ensures.goes b (begun b) a.free.now (c.of-plan.ensures a.free.now) in
     record {
       bytes = at.bytes ∙ ap (λ (z : List Rule). length (acts_bytes z)) rules;
       count = at.count ∙ ap length rules;

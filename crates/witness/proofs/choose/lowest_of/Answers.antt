@@ -3,8 +3,8 @@ use Rattle.bits.specs.Sets.{holds}
 use Rattle.witness.proofs.Lowest.{lowest_is, lowest_none}
 use Rattle.witness.proofs.choose.lowest_of.Goals as goal
 
-pub returns-in-default : goal.returns-in-default
-returns-in-default c = sym (lowest_none c.args.size (holds c.args.set.now) (λ j _. c.in-default.ensures j))
+pub returns-in_default : goal.returns-in_default
+returns-in_default c = sym (lowest_none c.args.size (holds c.args.set.now) (λ j _. c.in_default.ensures j))
 
 pub returns-then-v-size : goal.returns-then-v-size
 returns-then-v-size c =

@@ -28,9 +28,9 @@ loop-i-preserved c =
     let size = c.loop-i.invariant.1 in (
       omega arith,
       simp length-set size,
-      walked_more c.args.size e c.args.x c.args.y len c.loop-i.vertices c.loop-i.at c.step-from-at.result c.loop-i.i
+      walked_more c.args.size e c.args.x c.args.y len c.loop-i.vertices c.loop-i.at c.step_from-at.result c.loop-i.i
           (omega arith) (omega arith)
-          (c.step-from-at.ensures ∙ lowest_same c.args.size _ (λ z. e c.loop-i.at z && within left c.args.size e z c.args.y)
+          (c.step_from-at.ensures ∙ lowest_same c.args.size _ (λ z. e c.loop-i.at z && within left c.args.size e z c.args.y)
           (λ j _. ap (λ b. e c.loop-i.at j && b)
           (c.lay-len.ensures.within left (omega arith) j ∙ ap (λ (f : ℕ → ℕ → Bool). within left c.args.size f j c.args.y) (turned_is c.args.back.now c.args.table.now c.requires.back))))
           c.loop-i.invariant.2,

@@ -14,7 +14,7 @@ loop-p-init c =
 pub loop-p-preserved : goal.loop-p-preserved
 loop-p-preserved c =
     let size = c.loop-p.invariant.0 in
-    (simp length-set size, filled_more (bridge (state c.args.graph.now)) c.loop-p.sets c.loop-p.p c.bridges-from.result (omega arith) c.bridges-from.ensures c.loop-p.invariant.1)
+    (simp length-set size, filled_more (bridge (state c.args.graph.now)) c.loop-p.sets c.loop-p.p c.bridges_from.result (omega arith) c.bridges_from.ensures c.loop-p.invariant.1)
 
 pub returns : goal.returns
 returns c =

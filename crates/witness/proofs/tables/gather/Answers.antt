@@ -21,4 +21,4 @@ loop-u-smaller c = fewer (holds c.loop-u.rest) (holds c.remove.new.self) c.in-So
 
 pub returns : goal.returns
 returns c =
-    gathered_all (holds c.args.set.now) (in_row c.args.table.now) (holds c.loop-u.all) (holds c.loop-u.rest) c.in-default.ensures c.loop-u.invariant
+    gathered_all (holds c.args.set.now) (in_row c.args.table.now) (holds c.loop-u.all) (holds c.loop-u.rest) c.in_default.ensures c.loop-u.invariant

@@ -23,23 +23,23 @@ returns c =
     let same = linked_is routes in
     record {
       holder =
-          c.lowest-of-holder.ensures
+          c.lowest_of-holder.ensures
           ∙ ap₂ lowest c.size-size.ensures.value
           (fun_ext (λ t. c.intersection.ensures t
           ∙ ap₂ (λ a b. a && b) (c.holding.ensures t) (c.barrier-barrier.ensures.out t ∙ ap (λ z. out_of z (only x) t) same)))
           ∙ holder_is s wf x c.args.r c.args.y;
       last =
-          c.lowest-of-last.ensures
+          c.lowest_of-last.ensures
           ∙ ap₂ lowest c.size-size.ensures.value
           (fun_ext (λ q. c.intersection-2.ensures q
-          ∙ ap₂ (λ a b. a && b) (c.terminal.ensures.value q ∙ routes.terminal q c.lowest-of-holder.result)
+          ∙ ap₂ (λ a b. a && b) (c.terminal.ensures.value q ∙ routes.terminal q c.lowest_of-holder.result)
           (c.barrier-barrier.ensures.inner q ∙ ap (λ z. inner_of z (only x) q) same)))
-          ∙ last_is s wf x c.lowest-of-holder.result;
+          ∙ last_is s wf x c.lowest_of-holder.result;
       first =
-          c.lowest-of-first.ensures
+          c.lowest_of-first.ensures
           ∙ ap₂ lowest c.size-size.ensures.value
           (fun_ext (λ p. c.intersection-3.ensures p
           ∙ ap₂ (λ a b. a && b) (c.initial.ensures.value p ∙ routes.initial p x)
-          (c.island.ensures.value p ∙ ap (λ z. is_subject z c.lowest-of-last.result && connected z c.lowest-of-last.result p) same)))
-          ∙ first_is s wf x c.lowest-of-last.result;
+          (c.island.ensures.value p ∙ ap (λ z. is_subject z c.lowest_of-last.result && connected z c.lowest_of-last.result p) same)))
+          ∙ first_is s wf x c.lowest_of-last.result;
     }

@@ -15,8 +15,8 @@ use Rattle.witness.proofs.Same.{linked_is}
 use Rattle.witness.proofs.ends.Ends.of.Goals as goal
 
 -- Who has the right, of those that the barrier leads to.
-pub returns-in-default : goal.returns-in-default
-returns-in-default c =
+pub returns-in_default : goal.returns-in_default
+returns-in_default c =
     let routes = c.args.routes.now in
     let s = routed routes in
     let x = c.args.x in
@@ -28,7 +28,7 @@ returns-in-default c =
             from_false _
             (sym (c.intersection-reached.ensures k.at
             ∙ ap₂ (λ a b. a && b) (c.holding.ensures k.at) (c.barrier-barrier.ensures.out k.at ∙ ap (λ z. out_of z (only x) k.at) same))
-            ∙ c.in-default.ensures k.at) k.passes),
+            ∙ c.in_default.ensures k.at) k.passes),
         record {
           inner = λ k. c.barrier-barrier.ensures.inner k ∙ ap (λ z. inner_of z (only x) k) same;
           out = λ k. c.barrier-barrier.ensures.out k ∙ ap (λ z. out_of z (only x) k) same;
@@ -59,18 +59,18 @@ returns c =
                 ∙ ap (lowest s.size) (fun_ext chosen)
                 ∙ holder_is s wf x c.args.r c.args.y;
             last =
-                c.lowest-of-last.ensures
+                c.lowest_of-last.ensures
                 ∙ ap₂ lowest c.size-size.ensures.value
                 (fun_ext (λ q. c.intersection.ensures q
                 ∙ ap₂ (λ a b. a && b) (c.terminal.ensures.value q ∙ routes.terminal q v)
                 (c.barrier-barrier.ensures.inner q ∙ ap (λ z. inner_of z (only x) q) same)))
                 ∙ last_is s wf x v;
             first =
-                c.lowest-of-first.ensures
+                c.lowest_of-first.ensures
                 ∙ ap₂ lowest c.size-size.ensures.value
                 (fun_ext (λ p. c.intersection-2.ensures p
                 ∙ ap₂ (λ a b. a && b) (c.initial.ensures.value p ∙ routes.initial p x)
-                (c.island.ensures.value p ∙ ap (λ z. is_subject z c.lowest-of-last.result && connected z c.lowest-of-last.result p) same)))
-                ∙ first_is s wf x c.lowest-of-last.result;
+                (c.island.ensures.value p ∙ ap (λ z. is_subject z c.lowest_of-last.result && connected z c.lowest_of-last.result p) same)))
+                ∙ first_is s wf x c.lowest_of-last.result;
           };
     }

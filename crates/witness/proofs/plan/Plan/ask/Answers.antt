@@ -8,35 +8,35 @@ use Rattle.witness.proofs.Going.{grows_not, halted_on}
 use Rattle.witness.proofs.Crossing.{left_created, asked_taken, asked_created}
 use Rattle.witness.proofs.plan.Plan.ask.Goals as goal
 
-pub returns-in-err-create : goal.returns-in-err-create
-returns-in-err-create c =
+pub returns-in_err-create : goal.returns-in_err-create
+returns-in_err-create c =
     let a = c.args in
     let s = routed a.routes.now in
-    rw (err_from_is_err_and c.from-residual.result c.from-residual.ensures.1).1
+    rw (err_from_is_err_and c.from_residual.result c.from_residual.ensures.1).1
     (record {
       goes = λ b w was at.
           let w1 = doing (creating a.q) w in
-          halted_on b (length was) w1 _ (asked_created s w1 w1 a.p a.q a.u a.v w.state.size a.r a.y (grows_not w1)) (c.in-err-create.ensures.goes b w was at);
+          halted_on b (length was) w1 _ (asked_created s w1 w1 a.p a.q a.u a.v w.state.size a.r a.y (grows_not w1)) (c.in_err-create.ensures.goes b w was at);
     })
 
-pub returns-in-err-take-to : goal.returns-in-err-take-to
-returns-in-err-take-to c =
+pub returns-in_err-take_to : goal.returns-in_err-take_to
+returns-in_err-take_to c =
     let a = c.args in
     let s = routed a.routes.now in
-    rw (err_from_is_err_and c.from-residual-in-err-take-to.result c.from-residual-in-err-take-to.ensures.1).1
+    rw (err_from_is_err_and c.from_residual-in_err-take_to.result c.from_residual-in_err-take_to.ensures.1).1
     (record {
       goes = λ b w was at.
           let w1 = doing (creating a.q) w in
           let w2 = taking_to s a.q a.v 1 a.u w1 in
           halted_on b (length was) w2 _ (asked_taken s w2 w2 a.p a.q a.u w.state.size a.r a.y (grows_not w2))
-          (c.in-err-take-to.ensures.goes b w1 was (c.in-ok-create.ensures.goes b w was at));
+          (c.in_err-take_to.ensures.goes b w1 was (c.in_ok-create.ensures.goes b w was at));
     })
 
-pub returns-in-err-grant : goal.returns-in-err-grant
-returns-in-err-grant c =
+pub returns-in_err-grant : goal.returns-in_err-grant
+returns-in_err-grant c =
     let a = c.args in
     let s = routed a.routes.now in
-    rw (err_from_is_err_and c.from-residual-in-err-grant.result c.from-residual-in-err-grant.ensures.1).1
+    rw (err_from_is_err_and c.from_residual-in_err-grant.result c.from_residual-in_err-grant.ensures.1).1
     (record {
       goes = λ b w was at.
           let new = c.size-new.ensures.value ∙ ap (λ (z : State). z.size) at.here in
@@ -46,7 +46,7 @@ returns-in-err-grant c =
           let w3 = doing (granting a.q a.u 1 k) w2 in
           subst (λ (m : ℕ). Halted b (length was) (asked s a.p a.q a.r a.y a.u a.v m w)) new
           (halted_on b (length was) w3 _ (left_created s w3 w3 a.p a.q a.u k a.r a.y (grows_not w3))
-          (c.in-err-grant.ensures.goes b w2 was (c.in-ok-take-to.ensures.goes b w1 was (c.in-ok-create.ensures.goes b w was at))));
+          (c.in_err-grant.ensures.goes b w2 was (c.in_ok-take_to.ensures.goes b w1 was (c.in_ok-create.ensures.goes b w was at))));
     })
 
 pub returns : goal.returns
@@ -59,7 +59,7 @@ returns c =
           let w1 = doing (creating a.q) w in
           let w2 = taking_to s a.q a.v 1 a.u w1 in
           let w3 = doing (granting a.q a.u 1 c.size-new.result) w2 in
-          subst (λ (m : ℕ). Goes b (asked s a.p a.q a.r a.y a.u a.v m w) c.leave-at.result c.leave-at.new.self was c.leave-at.new.out) new
-          (c.leave-at.ensures.goes b w3 was
-          (c.in-ok-grant.ensures.goes b w2 was (c.in-ok-take-to.ensures.goes b w1 was (c.in-ok-create.ensures.goes b w was at))));
+          subst (λ (m : ℕ). Goes b (asked s a.p a.q a.r a.y a.u a.v m w) c.leave_at.result c.leave_at.new.self was c.leave_at.new.out) new
+          (c.leave_at.ensures.goes b w3 was
+          (c.in_ok-grant.ensures.goes b w2 was (c.in_ok-take_to.ensures.goes b w1 was (c.in_ok-create.ensures.goes b w was at))));
     }

@@ -7,28 +7,28 @@ use Rattle.witness.proofs.Along.{grows_held}
 use Rattle.witness.proofs.Crossing.{left_taken}
 use Rattle.witness.proofs.plan.Plan.leave_at.Goals as goal
 
-pub returns-in-err-take-to : goal.returns-in-err-take-to
-returns-in-err-take-to c =
+pub returns-in_err-take_to : goal.returns-in_err-take_to
+returns-in_err-take_to c =
     let a = c.args in
     let s = routed a.routes.now in
-    rw (err_from_is_err_and c.from-residual.result c.from-residual.ensures.1).1
+    rw (err_from_is_err_and c.from_residual.result c.from_residual.ensures.1).1
     (record {
       goes = λ b w was at.
           let w1 = taking_to s a.p a.u 1 a.c w in
-          halted_on b (length was) w1 _ (left_taken s w1 w1 a.p a.q a.c a.r a.y (grows_not w1)) (c.in-err-take-to.ensures.goes b w was at);
+          halted_on b (length was) w1 _ (left_taken s w1 w1 a.p a.q a.c a.r a.y (grows_not w1)) (c.in_err-take_to.ensures.goes b w was at);
     })
 
-pub returns-in-err-grant : goal.returns-in-err-grant
-returns-in-err-grant c =
+pub returns-in_err-grant : goal.returns-in_err-grant
+returns-in_err-grant c =
     let a = c.args in
     let s = routed a.routes.now in
-    rw (err_from_is_err_and c.from-residual-in-err-grant.result c.from-residual-in-err-grant.ensures.1).1
+    rw (err_from_is_err_and c.from_residual-in_err-grant.result c.from_residual-in_err-grant.ensures.1).1
     (record {
       goes = λ b w was at.
           let w1 = taking_to s a.p a.u 1 a.c w in
           let w2 = doing (granting a.p a.c a.r a.y) w1 in
           halted_on b (length was) w2 _ (grows_held w2 w2 a.q a.c a.r a.y (grows_not w2))
-          (c.in-err-grant.ensures.goes b w1 was (c.in-ok-take-to.ensures.goes b w was at));
+          (c.in_err-grant.ensures.goes b w1 was (c.in_ok-take_to.ensures.goes b w was at));
     })
 
 pub returns : goal.returns
@@ -39,6 +39,6 @@ returns c =
       goes = λ b w was at.
           let w1 = taking_to s a.p a.u 1 a.c w in
           let w2 = doing (granting a.p a.c a.r a.y) w1 in
-          c.take-unless-held.ensures.goes b w2 was
-          (c.in-ok-grant.ensures.goes b w1 was (c.in-ok-take-to.ensures.goes b w was at));
+          c.take_unless_held.ensures.goes b w2 was
+          (c.in_ok-grant.ensures.goes b w1 was (c.in_ok-take_to.ensures.goes b w was at));
     }

@@ -10,8 +10,8 @@ returns-then-leads c =
     let a = c.args in
     record {
       goes = λ b w was at.
-          subst (λ (v : Work). Goes b v c.take-to.result c.take-to.new.self was c.take-to.new.out)
-          (sym (over_fetched (routed a.routes.now) a.p a.q a.r a.y w c.if-leads.ensures.value)) (c.take-to.ensures.goes b w was at);
+          subst (λ (v : Work). Goes b v c.take_to.result c.take_to.new.self was c.take_to.new.out)
+          (sym (over_fetched (routed a.routes.now) a.p a.q a.r a.y w c.if-leads.ensures.value)) (c.take_to.ensures.goes b w was at);
     }
 
 pub returns-then-leads-2 : goal.returns-then-leads-2
@@ -31,7 +31,7 @@ returns-then-grants c =
       goes = λ b w was at.
           subst (λ (v : Work). Goes b v c.pass.result c.pass.new.self was c.pass.new.out)
           (sym (over_passed (routed a.routes.now) a.p a.q a.r a.y w c.if-leads.ensures.value c.if-leads-2.ensures.value
-          c.near-end-u.result c.far-end-v.result c.near-end-u.ensures.value c.far-end-v.ensures.value c.if-grants.ensures.value))
+          c.near_end-u.result c.far_end-v.result c.near_end-u.ensures.value c.far_end-v.ensures.value c.if-grants.ensures.value))
           (c.pass.ensures.goes b w was at);
     }
 
@@ -42,6 +42,6 @@ returns-else-grants c =
       goes = λ b w was at.
           subst (λ (v : Work). Goes b v c.ask.result c.ask.new.self was c.ask.new.out)
           (sym (over_asked (routed a.routes.now) a.p a.q a.r a.y w c.if-leads.ensures.value c.if-leads-2.ensures.value
-          c.near-end-u.result c.far-end-v.result c.near-end-u.ensures.value c.far-end-v.ensures.value c.if-grants.ensures.value))
+          c.near_end-u.result c.far_end-v.result c.near_end-u.ensures.value c.far_end-v.ensures.value c.if-grants.ensures.value))
           (c.ask.ensures.goes b w was at);
     }

@@ -20,12 +20,12 @@ loop-next-preserved c = (
       let s = routed c.args.routes.now in
       let so = subst (Over s b c.args.r c.args.y _ l.self was l.out l.at) (rest_more row l.next-index (omega arith)) (l.invariant.1 b w was at) in
       over_more s b c.args.r c.args.y _ l.self was l.out l.at (get_or row l.next-index 0) (drop (l.next-index + 1) row) so
-      c.over-bridge.new.self c.over-bridge.new.out (c.in-ok-over-bridge.ensures.goes b so.so_far was so.stands),
+      c.over_bridge.new.self c.over_bridge.new.out (c.in_ok-over_bridge.ensures.goes b so.so_far was so.stands),
 )
 
-pub returns-in-err-over-bridge : goal.returns-in-err-over-bridge
-returns-in-err-over-bridge c =
-    rw (err_from_is_err_and c.from-residual.result c.from-residual.ensures.1).1
+pub returns-in_err-over_bridge : goal.returns-in_err-over_bridge
+returns-in_err-over_bridge c =
+    rw (err_from_is_err_and c.from_residual.result c.from_residual.ensures.1).1
     (record {
       goes = λ b w was at.
           let l = c.loop-next in
@@ -33,7 +33,7 @@ returns-in-err-over-bridge c =
           let s = routed c.args.routes.now in
           let so = subst (Over s b c.args.r c.args.y _ l.self was l.out l.at) (rest_more row l.next-index (omega arith)) (l.invariant.1 b w was at) in
           over_halted s b c.args.r c.args.y _ l.self was l.out l.at (get_or row l.next-index 0) (drop (l.next-index + 1) row) so
-          (c.in-err-over-bridge.ensures.goes b so.so_far was so.stands);
+          (c.in_err-over_bridge.ensures.goes b so.so_far was so.stands);
     })
 
 pub returns : goal.returns

@@ -18,13 +18,13 @@ path-preserved c = (
       let next = get_or path i 0 in
       let so = subst (Along b c.args.p c.args.r c.args.z _ c.path.self was c.path.out c.path.at) (rest_more path i (omega arith)) (c.path.invariant.1 b w was at) in
       along_more b c.args.p c.args.r c.args.z _ c.path.self was c.path.out c.path.at next (drop (c.path.next-index + 1) path) so
-      c.if-has.ensures.value c.take-unless-held.new.self c.take-unless-held.new.out
-      (c.in-ok-take-unless-held.ensures.goes b so.so_far was so.stands),
+      c.if-has.ensures.value c.take_unless_held.new.self c.take_unless_held.new.out
+      (c.in_ok-take_unless_held.ensures.goes b so.so_far was so.stands),
 )
 
-pub returns-in-err-take-unless-held : goal.returns-in-err-take-unless-held
-returns-in-err-take-unless-held c =
-    let p = err_from_is_err_and c.from-residual.result c.from-residual.ensures.1 in
+pub returns-in_err-take_unless_held : goal.returns-in_err-take_unless_held
+returns-in_err-take_unless_held c =
+    let p = err_from_is_err_and c.from_residual.result c.from_residual.ensures.1 in
     rw p.1
     (record {
       goes = λ b w was at.
@@ -33,7 +33,7 @@ returns-in-err-take-unless-held c =
           let next = get_or path i 0 in
           let so = subst (Along b c.args.p c.args.r c.args.z _ c.path.self was c.path.out c.path.at) (rest_more path i (omega arith)) (c.path.invariant.1 b w was at) in
           along_halted b c.args.p c.args.r c.args.z _ c.path.self was c.path.out c.path.at next (drop (c.path.next-index + 1) path) so
-          c.if-has.ensures.value (c.in-err-take-unless-held.ensures.goes b so.so_far was so.stands);
+          c.if-has.ensures.value (c.in_err-take_unless_held.ensures.goes b so.so_far was so.stands);
     })
 
 pub returns : goal.returns
@@ -43,8 +43,8 @@ returns c =
           let so = c.path.invariant.1 b w was at in
           let path = c.args.path.now in
           let left = drop c.path.next-index path in
-          let goes = c.take-unless-held-2.ensures.goes b so.so_far was so.stands in
-          subst (λ v. Goes b v c.take-unless-held-2.result c.take-unless-held-2.new.self was c.take-unless-held-2.new.out)
+          let goes = c.take_unless_held-2.ensures.goes b so.so_far was so.stands in
+          subst (λ v. Goes b v c.take_unless_held-2.result c.take_unless_held-2.new.self was c.take_unless_held-2.new.out)
           (elim c.path-test.branch [
             | else-path-test e ↦
                 along_end b c.args.p c.args.r c.args.z _ c.path.self was c.path.out c.path.at left so

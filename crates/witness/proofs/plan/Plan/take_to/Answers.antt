@@ -14,7 +14,7 @@ returns-then-p-y c =
     let s = routed a.routes.now in
     record {
       goes = λ b w was at.
-          subst (λ (path : List ℕ). Goes b (taking_along a.p a.p path a.r a.z w) c.take-unless-held.result c.take-unless-held.new.self was c.take-unless-held.new.out)
+          subst (λ (path : List ℕ). Goes b (taking_along a.p a.p path a.r a.z w) c.take_unless_held.result c.take_unless_held.new.self was c.take_unless_held.new.out)
           (sym (stays_put s.size (can_take s) a.p) ∙ ap (shortest_row_of s.size (can_take s) a.p) c.if-p-y.true)
-          (c.take-unless-held.ensures.goes b w was at);
+          (c.take_unless_held.ensures.goes b w was at);
     }

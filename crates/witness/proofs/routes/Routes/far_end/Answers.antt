@@ -17,7 +17,7 @@ returns c =
     let s = routed r in
     record {
       value =
-          c.lowest-of.ensures
+          c.lowest_of.ensures
           ∙ ap₂ lowest c.size.ensures.value
           (fun_ext (λ v. c.intersection.ensures v ∙ ap₂ (λ a b. a && b) (c.from.ensures.value v ∙ r.led c.args.q v) (r.sides c.args.u v)))
           ∙ on_path s (well_formed-law r.graph.now) c.args.q (λ v. can_grant s c.args.u v || can_grant s v c.args.u);

@@ -17,7 +17,7 @@ returns c =
     let s = routed r in
     record {
       value =
-          c.lowest-of.ensures
+          c.lowest_of.ensures
           ∙ ap₂ lowest c.size.ensures.value
           (fun_ext (λ u. c.intersection.ensures u ∙ ap₂ (λ a b. a && b) (c.from.ensures.value u ∙ r.led c.args.p u) (r.granted c.args.x u)))
           ∙ on_path s (well_formed-law r.graph.now) c.args.p (λ u. can_grant s u c.args.x);

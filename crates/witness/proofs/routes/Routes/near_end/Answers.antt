@@ -20,7 +20,7 @@ returns c =
     let ahead = fun_ext (λ v. c.from.ensures.value v ∙ r.led c.args.q v) in
     record {
       value =
-          c.lowest-of.ensures
+          c.lowest_of.ensures
           ∙ ap₂ lowest c.size.ensures.value
           (fun_ext (λ u. c.intersection.ensures u ∙ ap₂ (λ a b. a && b) (c.from-2.ensures.value u ∙ r.led c.args.p u)
           (c.gather-sides.ensures u ∙ beside_is s wf few (in_row r.beside) r.sides (holds c.from.result) u ∙ ap (λ f. beside_some s f u) ahead)))

@@ -8,8 +8,8 @@ use Rattle.witness.proofs.Relation.{table_fits, row_of}
 use Rattle.graph.proofs.Sound.{well_formed-law}
 use Rattle.witness.proofs.routes.Routes.path.Goals as goal
 
-pub shortest-row-requires : goal.shortest-row-requires
-shortest-row-requires c =
+pub shortest_row-requires : goal.shortest_row-requires
+shortest_row-requires c =
     let r = c.args.self.now in
     record {
       fits =
@@ -22,5 +22,5 @@ pub returns : goal.returns
 returns c =
     let r = c.args.self.now in
     record {
-      value = row_of c.size.result (routed r).size c.size.ensures.value r.takes (can_take (routed r)) r.taken c.args.x c.args.y _ c.shortest-row.ensures.value;
+      value = row_of c.size.result (routed r).size c.size.ensures.value r.takes (can_take (routed r)) r.taken c.args.x c.args.y _ c.shortest_row.ensures.value;
     }

@@ -7,8 +7,8 @@ use Rattle.witness.specs.Of.{routed}
 use Rattle.witness.proofs.Relation.{table_fits, row_of}
 use Rattle.witness.proofs.routes.Routes.row.Goals as goal
 
-pub shortest-row-requires : goal.shortest-row-requires
-shortest-row-requires c =
+pub shortest_row-requires : goal.shortest_row-requires
+shortest_row-requires c =
     let r = c.args.self.now in
     let s = routed r in
     record {
@@ -22,5 +22,5 @@ pub returns : goal.returns
 returns c =
     let r = c.args.self.now in
     record {
-      value = row_of c.size.result (routed r).size c.size.ensures.value r.bridges (bridge (routed r)) r.bridged c.args.p c.args.q _ c.shortest-row.ensures.value;
+      value = row_of c.size.result (routed r).size c.size.ensures.value r.bridges (bridge (routed r)) r.bridged c.args.p c.args.q _ c.shortest_row.ensures.value;
     }

@@ -9,8 +9,8 @@ returns-then-has c =
     let a = c.args in
     record {
       value =
-          held_answered (routed a.self.now) a.x a.r a.y a.out.now c.write-none.new.out c.write-none.result c.if-has.ensures.value
-          (omega (arith, c.if-out-longest-answer.false, c.longest-answer.ensures)) c.write-none.ensures;
+          held_answered (routed a.self.now) a.x a.r a.y a.out.now c.write_none.new.out c.write_none.result c.if-has.ensures.value
+          (omega (arith, c.if-out-longest_answer.false, c.longest_answer.ensures)) c.write_none.ensures;
     }
 
 pub returns-in-Err : goal.returns-in-Err

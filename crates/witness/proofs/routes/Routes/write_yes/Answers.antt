@@ -12,13 +12,13 @@ returns c =
     let a = c.args in
     let b = routed a.self.now in
     let was = a.out.now in
-    let planned = c.write-acts-used.ensures in
+    let planned = c.write_acts-used.ensures in
     let head = c.in-Some.ensures in
-    let n = c.in-Some.head + c.write-acts-used.result.0 in
+    let n = c.in-Some.head + c.write_acts-used.result.0 in
     let rules = sym (witness_is b a.x a.r a.y c.requires.lacks) in
     let said =
-    answered (exact_work b a.x a.r a.y).rules was c.write-acts-used.new.free c.write-head.new.out (length was - 5) refl
-    (omega (arith, c.requires.room)) c.write-acts-used.result.0 c.write-acts-used.result.1 c.in-Some.head planned.bytes planned.count
+    answered (exact_work b a.x a.r a.y).rules was c.write_acts-used.new.free c.write_head.new.out (length was - 5) refl
+    (omega (arith, c.requires.room)) c.write_acts-used.result.0 c.write_acts-used.result.1 c.in-Some.head planned.bytes planned.count
     head.0 planned.written head.2 in
     record {
       shared = ends_share b (well_formed-law a.self.now.graph.now) a.x a.r a.y a.ends c.requires.exact;
