@@ -1,15 +1,13 @@
 -- How a block is turned round.
-use Rattle.std.proofs.Common.{◌≡◌, ℕ, zero, suc, ◌+◌, ◌-◌, ◌*◌, ◌/◌, ◌%◌, ◌^◌, ◌<◌, ◌≤◌, Bool, true, false, cond, not, ◌&&◌, ◌||◌, T, eqb, ltb, leb, sym, refl, ap, ◌∙◌, subst, ap₂, inl, inr, mul_assoc, mul_comm, mul-add, arith}
+use Rattle.std.proofs.Common.{◌≡◌, ℕ, zero, suc, ◌+◌, ◌-◌, ◌*◌, ◌/◌, ◌%◌, ◌^◌, ◌<◌, ◌≤◌, Bool, true, false, cond, not, ◌&&◌, ◌||◌, eqb, ltb, leb, sym, refl, ap, ◌∙◌, subst, inl, inr, mul_assoc, mul_comm, mul-add, arith}
 use native.Mathlib.Nat.{add-div_right, div-eq_of_lt}
 use lib.Bits.{bit_and, bit_xor}
 use Rattle.std.proofs.lemmas.Nat.{div-mul-add}
 use Rattle.std.proofs.lemmas.Bool.{cases_eq, cases_lt, eq-eqb, lt-ltb, le-ltb}
 use Rattle.std.proofs.lemmas.Bool.Decides.{nat_tests}
 use Rattle.model.specs.Bit.{bit}
-use Rattle.model.specs.Bounded.{all_below}
-use Rattle.model.proofs.Tests.{all_at}
 use Rattle.bits.specs.Blocks.{Mask, strip, exchanged, swapped}
-use Rattle.bits.proofs.Bit.{bit_xor-law, bit_and-law, bit_shl, bit_shr, bit_mod, bit_past}
+use Rattle.bits.proofs.Bit.{bit_xor-law, bit_and-law, bit_shl, bit_shr, bit_mod}
 
 -- A strip is odd if the one before it is even.
 strip_before : (j k : ℕ) → 0 < j → j ≤ k → k / j ≡ (k - j) / j + 1

@@ -1,6 +1,6 @@
 -- A graph stands for a well-formed state, whose subjects and rights are among those that there are.
-use Rattle.std.proofs.Common.{◌≡◌, ℕ, ◌+◌, ◌*◌, ◌<◌, ◌≤◌, Bool, true, false, cond, ◌&&◌, T, eqb, ltb, ◌⊎◌, sym, refl, ap, ◌∙◌, subst, inl, inr, arith, ltb→lt, lt→ltb}
-use Rattle.model.specs.State.{State, WellFormed, is_vertex, is_subject, take_right, grant_right}
+use Rattle.std.proofs.Common.{◌≡◌, ℕ, ◌+◌, ◌*◌, ◌<◌, Bool, true, false, cond, ◌&&◌, T, eqb, ltb, sym, ap, ◌∙◌, subst, arith, ltb→lt, lt→ltb}
+use Rattle.model.specs.State.{WellFormed, is_vertex, is_subject, take_right, grant_right}
 use Rattle.model.specs.Rules.{applicable}
 use Rattle.model.specs.declared.Rule.{Rule}
 use Rattle.model.specs.declared.Rule.TheVariants.{Take, Grant, Create, Remove}

@@ -1,12 +1,11 @@
 -- What a graph stands for after a row of its table was written, and that its invariant stays.
-use Rattle.std.proofs.Common.{◌≡◌, ℕ, suc, ◌+◌, ◌*◌, ◌<◌, ◌≤◌, Bool, true, false, cond, not, ◌&&◌, ◌||◌, T, eqb, ltb, ◌⊎◌, List, length, get_or, set, sym, refl, ap, ◌∙◌, subst, ap₂, inl, inr, arith}
+use Rattle.std.proofs.Common.{◌≡◌, ℕ, ◌+◌, ◌*◌, ◌<◌, ◌≤◌, Bool, true, false, not, ◌&&◌, ◌||◌, T, eqb, List, length, set, refl, ap, ◌∙◌, subst, inl, inr, arith}
 use mathlib.Core.Path.{fun_ext}
-use Rattle.std.proofs.lemmas.Bool.{cases_eq, eq-eqb, ne_eqb, cond-true, cond-false, cases_lt, lt-ltb, le-ltb, cases_Bool}
+use Rattle.std.proofs.lemmas.Bool.{cases_eq, eq-eqb, ne_eqb, cond-true, cond-false, le-ltb}
 use Rattle.bits.specs.Sets.{holds}
 use Rattle.bits.specs.declared.set.VertexSet.{VertexSet}
 use Rattle.model.specs.State.{State}
-use Rattle.model.specs.Rules.{this_right, given, removed, created}
-use Rattle.graph.specs.Graphs.{gifted}
+use Rattle.model.specs.Rules.{this_right, given, removed}
 use Rattle.graph.specs.Table.{in_row, in_table, RowsFit}
 use Rattle.graph.proofs.Rows.{row_set, row_with, row_without}
 

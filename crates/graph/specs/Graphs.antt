@@ -1,17 +1,15 @@
 -- The protection state that a graph stands for, and what applying a rule to a graph answers.
-use Rattle.std.specs.Prelude.{ℕ, suc, ◌+◌, ◌*◌, Bool, true, false, cond, ◌&&◌, ◌||◌, ◌==◌, nat_lt}
+use Rattle.std.specs.Prelude.{ℕ, suc, Bool, true, false, cond, ◌&&◌, ◌||◌, ◌==◌, nat_lt}
 use Rattle.bits.specs.Sets.{holds}
-use Rattle.bits.specs.declared.set.VertexSet.{VertexSet}
 use Rattle.model.specs.Bit.{bit}
 use Rattle.model.specs.State.{State, take_right, grant_right}
-use Rattle.model.specs.Rules.{applicable, applied}
+use Rattle.model.specs.Rules.{applicable}
 use Rattle.model.specs.declared.Rule.{Rule}
 use Rattle.model.specs.declared.Rule.TheVariants.{Take, Grant, Create, Remove}
 use Rattle.graph.specs.Table.{in_table}
 use Rattle.graph.specs.declared.graph.Graph.{Graph}
 use Rattle.graph.specs.declared.outcome.Outcome.{Outcome}
 use Rattle.graph.specs.declared.outcome.Outcome.TheVariants.{Done, Refused}
-use Rattle.graph.specs.declared.outcome.Refusal.{Refusal}
 use Rattle.graph.specs.declared.outcome.Refusal.TheVariants.{NotApplicable, Full}
 
 unfoldable pub state : Graph → State

@@ -1,5 +1,5 @@
 -- How a graph stores rights: a row of targets for each vertex and right, those of vertex p at 8 p to 8 p + 7.
-use Rattle.std.specs.Prelude.{ℕ, ◌+◌, ◌*◌, ◌<◌, Bool, ◌&&◌, T, List, length, nat_lt, slice_index_or}
+use Rattle.std.specs.Prelude.{ℕ, ◌+◌, ◌*◌, ◌<◌, Bool, ◌&&◌, T, List, nat_lt, slice_index_or}
 use Rattle.bits.specs.Sets.{holds, none}
 use Rattle.bits.specs.declared.set.VertexSet.{VertexSet}
 

@@ -5,7 +5,7 @@ use Rattle.model.specs.State.{State, WellFormed, is_subject}
 use Rattle.model.specs.Bounded.{some_below, only}
 use Rattle.model.specs.Sharing.{can_get, CanGet, can_share, CanShare}
 use Rattle.model.specs.Certificates.{Certificate, is_right, inner_of, out_of, into_of, certificate_of}
-use Rattle.model.proofs.Tests.{both, parts, right, same, Some, some_from, some_below-law}
+use Rattle.model.proofs.Tests.{both, parts, same, Some, some_from, some_below-law}
 use Rattle.model.proofs.Readings.{subject_vertex, can_get-to, can_get-from, can_share-to, can_share-from}
 use Rattle.model.proofs.Barrier.{Barrier, Inner, Out, Into, inner_subject, least_barrier, out_gets, out_get, get_out, inner_least, out_least, into_least}
 use Rattle.model.proofs.Right.{In, VertexFacts, Closed, right_from, closed_barrier, right_no_share}

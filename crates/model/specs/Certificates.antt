@@ -1,6 +1,6 @@
 -- Certificates: three sets of vertices that show that none of the holders X ever comes to have r to any of the targets Y.
 -- The everyday case has one holder x and one target y, X = only x and Y = only y.
-use Rattle.std.specs.Prelude.{ℕ, Bool, true, cond, not, ◌&&◌, ◌||◌, eqb}
+use Rattle.std.specs.Prelude.{ℕ, Bool, not, ◌&&◌, ◌||◌}
 use Rattle.model.specs.State.{State, is_subject, take_right, grant_right}
 use Rattle.model.specs.Bounded.{some_below, all_below, implies}
 use Rattle.model.specs.Spans.{take_path, connected, initial_span, can_grant}

@@ -1,5 +1,5 @@
 -- The witness that is written, exactly: which subjects and paths it goes over, and each of its rules. All choices are made in the state at the question.
-use Rattle.std.specs.Prelude.{ℕ, zero, suc, Bool, true, false, cond, ◌&&◌, ◌||◌, List, [], ◌∷◌, ◌++◌, ◌==◌}
+use Rattle.std.specs.Prelude.{ℕ, zero, suc, Bool, false, cond, ◌&&◌, ◌||◌, List, [], ◌∷◌, ◌++◌, ◌==◌}
 use Rattle.model.specs.State.{State, take_right, grant_right}
 use Rattle.model.specs.Rules.{applied}
 use Rattle.model.specs.Bounded.{some_below}

@@ -1,6 +1,6 @@
 -- Take paths, bridges, connected subjects, and spans: each as a test (in lower case), which the code is held to, and as a relation without bounds
 -- (in capitals). The two say the same of a well-formed state.
-use Rattle.std.specs.Prelude.{◌≡◌, ℕ, Bool, ◌&&◌, ◌||◌, T, ◌⊎◌, ◌==◌}
+use Rattle.std.specs.Prelude.{◌≡◌, ℕ, Bool, ◌&&◌, ◌||◌, T, ◌==◌}
 use Rattle.model.specs.State.{State, is_subject, take_right, grant_right}
 use Rattle.model.specs.Bounded.{some_below}
 use Rattle.model.specs.Closure.{within, Star}

@@ -1,5 +1,5 @@
 -- A protection state: who has which right to what.
-use Rattle.std.specs.Prelude.{ℕ, ◌<◌, Bool, true, false, ◌&&◌, T, nat_lt}
+use Rattle.std.specs.Prelude.{ℕ, ◌<◌, Bool, ◌&&◌, T, nat_lt}
 
 -- Vertices are 0 to size - 1. What `subject` says of a number from `size` on means nothing.
 pub record State : Type 0 where

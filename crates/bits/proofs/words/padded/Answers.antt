@@ -1,4 +1,4 @@
-use Rattle.std.proofs.Common.{refl, ◌∙◌, arith, length-set}
+use Rattle.std.proofs.Common.{refl, arith, length-set}
 use Rattle.bits.proofs.Member.{copied_none, copied_more, copied_all}
 use Rattle.bits.proofs.words.padded.Goals as goal
 

@@ -1,19 +1,19 @@
-use Rattle.std.proofs.Common.{◌≡◌, ℕ, ◌+◌, ◌*◌, ◌<◌, ◌≤◌, Bool, true, false, cond, not, ◌&&◌, ◌||◌, T, eqb, ltb, length, sym, refl, ap, ◌∙◌, subst, arith, rules}
+use Rattle.std.proofs.Common.{rules}
 use Rattle.bits.specs.Sets.{holds}
 use Rattle.graph.specs.Graphs.{state}
-use Rattle.graph.specs.Table.{in_row, in_table}
+use Rattle.graph.specs.Table.{in_row}
 use Rattle.graph.proofs.States.{state_with, fit_with}
 use Rattle.graph.proofs.graph.Graph.add.Goals as goal
 
 pub invariant_of-self : goal.invariant_of-self
 unfolding state in_row
-invariant_of-self c = 
+invariant_of-self c =
     record {
       some = c.args.self.now.some;
       few = c.args.self.now.few;
       acting = c.args.self.now.acting;
       held = fit_with c.args.self.now.size c.args.self.now.rows c.args.p c.args.r c.args.q c.row.result c.insert.new.self
-        c.args.self.now.held c.row.ensures c.requires.1.0 (search rules) c.requires.0 c.requires.1.1 c.insert.ensures;
+          c.args.self.now.held c.row.ensures c.requires.1.0 (search rules) c.requires.0 c.requires.1.1 c.insert.ensures;
     }
 
 pub returns : goal.returns

@@ -1,4 +1,4 @@
-use Rattle.std.proofs.Common.{◌≡◌, true, false, eqb, sym, refl, ap, ◌∙◌, ap₂, arith, rules, eq-eqb, ne_eqb}
+use Rattle.std.proofs.Common.{true, false, sym, refl, ap, ◌∙◌, ap₂, arith, rules, eq-eqb, ne_eqb}
 use borrow.Author.Tests.{both_ways}
 use Rattle.model.specs.declared.Rule.TheVariants.{Create}
 use Rattle.graph.specs.Graphs.{state, gifted}

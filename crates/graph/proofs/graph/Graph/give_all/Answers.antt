@@ -1,5 +1,5 @@
 -- What is given up to right r, and one right more or none.
-use Rattle.std.proofs.Common.{◌≡◌, ◌/◌, ◌^◌, sym, refl, ap, ◌∙◌, eq-eqb, ne_eqb}
+use Rattle.std.proofs.Common.{◌/◌, ◌^◌, sym, ap, ◌∙◌, eq-eqb, ne_eqb}
 use lib.Bits.{bit_and}
 use Rattle.graph.specs.Graphs.{state}
 use Rattle.model.specs.Rules.{given}

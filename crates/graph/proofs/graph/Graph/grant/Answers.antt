@@ -1,7 +1,6 @@
-use Rattle.std.proofs.Common.{◌≡◌, true, false, sym, refl, ap, ◌∙◌, ap₂}
+use Rattle.std.proofs.Common.{true, false, refl}
 use borrow.Author.Tests.{both_ways}
 use Rattle.model.specs.declared.Rule.TheVariants.{Grant}
-use Rattle.graph.specs.Graphs.{state}
 use Rattle.graph.proofs.Sound.{grant_there, answered, refused}
 use Rattle.graph.proofs.graph.Graph.grant.Goals as goal
 

@@ -1,4 +1,4 @@
-use Rattle.std.proofs.Common.{◌≡◌, ℕ, suc, ◌+◌, Bool, true, false, cond, ◌||◌, eqb, sym, refl, ap, ◌∙◌, ap₂, add-one, arith, rules}
+use Rattle.std.proofs.Common.{◌≡◌, ℕ, suc, ◌+◌, Bool, ◌∙◌, ap₂, add-one, rules}
 use mathlib.Core.Path.{fun_ext}
 use Rattle.bits.specs.Sets.{holds}
 use Rattle.model.specs.State.{State}

@@ -1,6 +1,5 @@
 -- The subjects lie below the size exactly if they are a subset of what lies below it.
-use Rattle.std.proofs.Common.{◌≡◌, ℕ, ◌<◌, ◌≤◌, Bool, true, false, T, ltb, sym, refl, ap, ◌∙◌, subst, inl, inr, arith, ltb→lt, lt→ltb, rules}
-use mathlib.Core.Path.{fun_ext}
+use Rattle.std.proofs.Common.{◌≡◌, ℕ, Bool, true, T, ltb, sym, ◌∙◌, subst, inl, inr, arith, ltb→lt, lt→ltb, rules}
 use borrow.Author.Tests.{both_ways}
 use Rattle.std.proofs.lemmas.Bool.{cases_lt}
 use Rattle.model.specs.Bounded.{all_below, implies}
@@ -9,7 +8,7 @@ use Rattle.bits.specs.Sets.{holds}
 use Rattle.bits.specs.declared.set.VertexSet.{VertexSet}
 use Rattle.bits.proofs.Holds.{holds_past}
 use Rattle.graph.specs.Graphs.{state}
-use Rattle.graph.specs.Table.{in_row, in_table, SubjectsFit}
+use Rattle.graph.specs.Table.{SubjectsFit}
 use Rattle.graph.proofs.Rows.{bare_row, bare_table}
 use Rattle.graph.proofs.States.{same_state}
 use Rattle.graph.proofs.graph.Graph.new.Goals as goal
@@ -37,7 +36,7 @@ returns-then-size-eq0 c =
     }
 
 pub invariant_of-result : goal.invariant_of-result
-invariant_of-result c = 
+invariant_of-result c =
     record {
       some = omega (arith, c.if-size-eq0.false);
       few = search rules;

@@ -1,7 +1,5 @@
-use Rattle.std.proofs.Common.{◌≡◌, ℕ, ◌+◌, ◌*◌, ◌<◌, ◌≤◌, Bool, true, false, cond, not, ◌&&◌, ◌||◌, T, eqb, ltb, length, sym, refl, ap, ◌∙◌, subst, arith, rules}
-use Rattle.bits.specs.Sets.{holds}
+use Rattle.std.proofs.Common.{refl}
 use Rattle.graph.specs.Graphs.{state}
-use Rattle.graph.specs.Table.{in_row, in_table}
 use Rattle.graph.proofs.graph.Graph.size.Goals as goal
 
 pub returns : goal.returns

@@ -1,7 +1,6 @@
-use Rattle.std.proofs.Common.{◌≡◌, true, false, sym, refl, ap, ◌∙◌, ap₂}
+use Rattle.std.proofs.Common.{true, false, refl}
 use borrow.Author.Tests.{both_ways}
 use Rattle.model.specs.declared.Rule.TheVariants.{Take}
-use Rattle.graph.specs.Graphs.{state}
 use Rattle.graph.proofs.Sound.{take_there, answered, refused}
 use Rattle.graph.proofs.graph.Graph.take.Goals as goal
 

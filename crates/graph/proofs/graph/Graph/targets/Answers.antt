@@ -1,8 +1,7 @@
-use Rattle.std.proofs.Common.{◌≡◌, ℕ, ◌+◌, ◌*◌, ◌<◌, ◌≤◌, Bool, true, false, cond, not, ◌&&◌, ◌||◌, T, eqb, ltb, length, sym, refl, ap, ◌∙◌, subst, arith, rules}
-use Rattle.bits.specs.Sets.{holds}
+use Rattle.std.proofs.Common.{◌+◌, ◌*◌, ◌&&◌, sym, refl, ap, ◌∙◌, arith}
 use Rattle.graph.specs.Graphs.{state}
 use Rattle.graph.specs.Table.{in_row, in_table}
-use Rattle.std.proofs.lemmas.Bool.{lt-ltb, le-ltb}
+use Rattle.std.proofs.lemmas.Bool.{le-ltb}
 use Rattle.graph.proofs.Rows.{the_row}
 use Rattle.graph.proofs.graph.Graph.targets.Goals as goal
 

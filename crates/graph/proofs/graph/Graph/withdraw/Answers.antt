@@ -1,19 +1,19 @@
-use Rattle.std.proofs.Common.{◌≡◌, ℕ, ◌+◌, ◌*◌, ◌<◌, ◌≤◌, Bool, true, false, cond, not, ◌&&◌, ◌||◌, T, eqb, ltb, length, sym, refl, ap, ◌∙◌, subst, arith, rules}
+use Rattle.std.proofs.Common.{rules}
 use Rattle.bits.specs.Sets.{holds}
 use Rattle.graph.specs.Graphs.{state}
-use Rattle.graph.specs.Table.{in_row, in_table}
+use Rattle.graph.specs.Table.{in_row}
 use Rattle.graph.proofs.States.{state_without, fit_without, nothing_there}
 use Rattle.graph.proofs.graph.Graph.withdraw.Goals as goal
 
 pub invariant_of-self : goal.invariant_of-self
 unfolding state in_row
-invariant_of-self c = 
+invariant_of-self c =
     record {
       some = c.args.self.now.some;
       few = c.args.self.now.few;
       acting = c.args.self.now.acting;
       held = fit_without c.args.self.now.size c.args.self.now.rows c.args.p c.args.r c.args.q c.row.result c.remove.new.self
-        c.args.self.now.held c.row.ensures c.if-r-lt-RIGHTS.true (search rules) c.requires c.remove.ensures;
+          c.args.self.now.held c.row.ensures c.if-r-lt-RIGHTS.true (search rules) c.requires c.remove.ensures;
     }
 
 pub returns-then-r-lt-RIGHTS : goal.returns-then-r-lt-RIGHTS
