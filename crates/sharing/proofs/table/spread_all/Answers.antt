@@ -70,4 +70,4 @@ loop-l-smaller g c =
 
 pub returns : goal.returns
 returns g c =
-    spreading_all (state c.args.graph.now) (well_formed-law c.args.graph.now) (cell c.loop-l.rows g.row.W) (among g.row.W c.loop-l.rest) c.in-default.ensures c.loop-l.invariant.1
+    spreading_all (state c.args.graph.now) (well_formed-law c.args.graph.now) (cell c.loop-l.rows g.row.W) (among g.row.W c.loop-l.rest) c.in_default.ensures c.loop-l.invariant.1

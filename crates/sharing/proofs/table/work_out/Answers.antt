@@ -28,8 +28,8 @@ copy-requires-2 g c =
       c.requires.0.1.1.0,
     )
 
-pub spread-all-requires : goal.spread-all-requires
-spread-all-requires g c = (
+pub spread_all-requires : goal.spread_all-requires
+spread_all-requires g c = (
   (omega (arith, c.requires.0), (c.requires.0.1.0, (c.requires.0.1.1.0, (omega (arith, c.requires.0), omega (arith, c.requires.0))))),
   copied_rows c.args.graph.now 0 (omega arith) (cell c.turn.new.rows g.row.W) (cell c.args.takers.now g.row.W) _ c.size.result c.size.ensures.value c.turn.ensures c.requires.1.0 c.copy.ensures,
   copied_rows c.args.graph.now 1 (omega arith) (cell c.turn.new.rows g.row.W) (cell c.args.granters.now g.row.W) _ c.size-2.result c.size-2.ensures.value c.turn.ensures c.requires.1.1 c.copy-2.ensures,

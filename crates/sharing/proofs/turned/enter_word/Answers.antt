@@ -14,8 +14,8 @@ or_turned true false = refl
 or_turned false true = refl
 or_turned false false = refl
 
-pub row-insert-requires : goal.row-insert-requires
-row-insert-requires g c =
+pub row_insert-requires : goal.row_insert-requires
+row_insert-requires g c =
     let t = c.in-Some.ensures in
     let word = shared_target c.args.r (in_word c.args.c c.args.word) (λ y. eqb y c.args.x) (cell c.args.rows.now g.row.W) (cell c.loop-b.rows g.row.W) (in_word c.args.c c.loop-b.rest) (64 * c.args.c + c.in-Some.b) (word_there c.args.c c.loop-b.rest c.in-Some.b t.0 t.1) c.loop-b.invariant in
     let at : (64 * c.args.c + c.in-Some.b) % 64 ≡ c.in-Some.b = omega (arith, t.0) in
@@ -28,15 +28,15 @@ loop-b-init g c = shared_none c.args.r (in_word c.args.c c.args.word) (λ y. eqb
 pub loop-b-preserved : goal.loop-b-preserved
 loop-b-preserved g c =
     let t = c.in-Some.ensures in
-    shared_more c.args.r (in_word c.args.c c.args.word) (λ y. eqb y c.args.x) (cell c.args.rows.now g.row.W) (cell c.loop-b.rows g.row.W) (cell c.row-insert.new.rows g.row.W)
-    (in_word c.args.c c.loop-b.rest) (in_word c.args.c c.pop-bit.new.word) (64 * c.args.c + c.in-Some.b) c.requires.0.1.1.1
-    (word_there c.args.c c.loop-b.rest c.in-Some.b t.0 t.1) (word_without c.args.c c.loop-b.rest c.pop-bit.new.word c.in-Some.b t.0 t.2)
-    (λ i x. c.row-insert.ensures i x ∙ or_turned (eqb i (8 * (64 * c.args.c + c.in-Some.b) + c.args.r) && eqb x c.args.x) (cell c.loop-b.rows g.row.W i x)) c.loop-b.invariant
+    shared_more c.args.r (in_word c.args.c c.args.word) (λ y. eqb y c.args.x) (cell c.args.rows.now g.row.W) (cell c.loop-b.rows g.row.W) (cell c.row_insert.new.rows g.row.W)
+    (in_word c.args.c c.loop-b.rest) (in_word c.args.c c.pop_bit.new.word) (64 * c.args.c + c.in-Some.b) c.requires.0.1.1.1
+    (word_there c.args.c c.loop-b.rest c.in-Some.b t.0 t.1) (word_without c.args.c c.loop-b.rest c.pop_bit.new.word c.in-Some.b t.0 t.2)
+    (λ i x. c.row_insert.ensures i x ∙ or_turned (eqb i (8 * (64 * c.args.c + c.in-Some.b) + c.args.r) && eqb x c.args.x) (cell c.loop-b.rows g.row.W i x)) c.loop-b.invariant
 
 pub loop-b-smaller : goal.loop-b-smaller
-loop-b-smaller g c = let t = c.in-Some.ensures in fewer (bit c.loop-b.rest) (bit c.pop-bit.new.word) c.in-Some.b t.2 64 t.0 t.1
+loop-b-smaller g c = let t = c.in-Some.ensures in fewer (bit c.loop-b.rest) (bit c.pop_bit.new.word) c.in-Some.b t.2 64 t.0 t.1
 
 pub returns : goal.returns
 returns g c =
     shared_all c.args.r (in_word c.args.c c.args.word) (λ y. eqb y c.args.x) (cell c.args.rows.now g.row.W) (cell c.loop-b.rows g.row.W) (in_word c.args.c c.loop-b.rest)
-    (word_none c.args.c c.loop-b.rest c.in-default.ensures) c.loop-b.invariant
+    (word_none c.args.c c.loop-b.rest c.in_default.ensures) c.loop-b.invariant

@@ -13,8 +13,8 @@ loop-c-init g c = filled_none _ (cell c.args.rows.now g.row.W) _ (λ z x. none (
 
 pub loop-c-preserved : goal.loop-c-preserved
 loop-c-preserved g c =
-    filled_more (block_row (cell c.args.block.now g.row.W)) (cell c.args.rows.now g.row.W) (cell c.loop-c.rows g.row.W) (cell c.store-word.new.rows g.row.W) _ _ _
-    (λ z x. next_word (z / 8 / 64) c.loop-c.c (eqb (z % 8) c.args.r) (ltb (z / 8) c.args.n && eqb (x / 64) c.args.g)) c.store-word.ensures c.loop-c.invariant
+    filled_more (block_row (cell c.args.block.now g.row.W)) (cell c.args.rows.now g.row.W) (cell c.loop-c.rows g.row.W) (cell c.store_word.new.rows g.row.W) _ _ _
+    (λ z x. next_word (z / 8 / 64) c.loop-c.c (eqb (z % 8) c.args.r) (ltb (z / 8) c.args.n && eqb (x / 64) c.args.g)) c.store_word.ensures c.loop-c.invariant
 
 whole : (y n w : ℕ) (a d : Bool) → n ≤ 64 * w → (a && (ltb (y / 64) w && (ltb y n && d))) ≡ (a && (ltb y n && d))
 whole y n w a d h =

@@ -16,8 +16,8 @@ loop-g-init g c = filled_none _ (cell c.args.rows.now g.row.W) _ (λ z x. none (
 
 pub loop-g-preserved : goal.loop-g-preserved
 loop-g-preserved g c =
-    filled_more (has_row (state c.args.graph.now)) (cell c.args.rows.now g.row.W) (cell c.loop-g.rows g.row.W) (cell c.turn-word.new.rows g.row.W) _ _ _
-    (λ z x. next_last (x / 64) c.loop-g.g (eqb (z % 8) c.args.r) (ltb (z / 8) (state c.args.graph.now).size)) c.turn-word.ensures c.loop-g.invariant
+    filled_more (has_row (state c.args.graph.now)) (cell c.args.rows.now g.row.W) (cell c.loop-g.rows g.row.W) (cell c.turn_word.new.rows g.row.W) _ _ _
+    (λ z x. next_last (x / 64) c.loop-g.g (eqb (z % 8) c.args.r) (ltb (z / 8) (state c.args.graph.now).size)) c.turn_word.ensures c.loop-g.invariant
 
 both_true : (a b c : Bool) → c ≡ true → (a && (b && c)) ≡ (a && b)
 both_true a b c e = grind (arith, nat_tests)
