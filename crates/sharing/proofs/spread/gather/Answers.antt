@@ -1,4 +1,4 @@
-use Rattle.std.proofs.Common.{◌≡◌, refl, arith}
+use Rattle.std.proofs.Common.{refl, arith}
 use Rattle.bits.specs.Among.{among}
 use Rattle.bits.specs.Rows.{cell}
 use Rattle.graph.specs.Graphs.{state}
@@ -9,7 +9,7 @@ use Rattle.sharing.proofs.Gathered.{gathered_none, gathered_more, gathered_all}
 use Rattle.sharing.proofs.spread.gather.Goals as goal
 
 pub loop-t-init : goal.loop-t-init
-loop-t-init g c = λ r. gathered_none (state c.args.graph.now) (well_formed-law c.args.graph.now) r (among g.row.W c.args.set.now) _ (c.requires.1 r)
+loop-t-init g c = λ r. gathered_none (state c.args.graph.now) (well_formed-law c.args.graph.now) r (among g.row.W c.args.set.now) _ (c.requires.by_index r)
 
 pub loop-t-preserved : goal.loop-t-preserved
 loop-t-preserved g c = λ r.

@@ -1,4 +1,4 @@
-use Rattle.std.proofs.Common.{◌≡◌, ℕ, ◌+◌, ◌*◌, ◌<◌, T, eqb, sym, ap, ◌∙◌, subst, inl, inr, arith}
+use Rattle.std.proofs.Common.{ℕ, ◌+◌, ◌*◌, ◌<◌, T, subst, inl, inr, arith}
 use Rattle.std.proofs.lemmas.Bool.{cases_lt}
 use Rattle.bits.specs.Among.{among}
 use Rattle.bits.specs.Rows.{cell}
@@ -16,7 +16,7 @@ share_word-requires g c =
       | inl l ↦ c.requires.1.1.1.1 (64 * c.loop-c.c + j) (subst T (c.word.ensures j l) t)
       | inr l ↦ absurd (from_false _ (bit_past 64 c.word.result j (omega arith) l) t)
     ] in
-    (omega (arith, c.requires), (omega (arith, c.requires), (omega (arith, c.requires), (omega (arith, c.requires), (c.requires.1.1.1.0, (c.requires.1.1.0, word))))))
+    (omega (arith, c.requires), ((omega (arith, c.requires), (omega (arith, c.requires), (omega (arith, c.requires), c.requires.1.1.1.0))), (c.requires.1.1.0, word)))
 
 pub loop-c-init : goal.loop-c-init
 loop-c-init g c = words_none c.args.r (among g.row.W c.args.targets.now) (among g.row.W c.args.who.now) (cell c.args.rows.now g.row.W)

@@ -1,4 +1,4 @@
-use Rattle.std.proofs.Common.{◌≡◌, ℕ, ◌+◌, ◌*◌, ◌<◌, T, eqb, sym, ap, ◌∙◌, subst, inl, inr, arith}
+use Rattle.std.proofs.Common.{ℕ, ◌+◌, ◌*◌, ◌<◌, T, eqb, subst, inl, inr, arith}
 use Rattle.std.proofs.lemmas.Bool.{cases_lt}
 use Rattle.bits.specs.Among.{among}
 use Rattle.bits.specs.Rows.{cell}
@@ -13,10 +13,13 @@ pub enter_word-requires : goal.enter_word-requires
 enter_word-requires g c =
     let word : (j : ℕ) → T (bit c.word.result j) → 64 * c.loop-c.c + j < c.args.n =
     λ j t. elim (cases_lt j 64) [
-      | inl l ↦ c.requires.1.1 (64 * c.loop-c.c + j) (subst T (c.word.ensures j l) t)
+      | inl l ↦ c.requires.x_bound.1 (64 * c.loop-c.c + j) (subst T (c.word.ensures j l) t)
       | inr l ↦ absurd (from_false _ (bit_past 64 c.word.result j (omega arith) l) t)
     ] in
-    ((omega (arith, c.requires.0), (omega (arith, c.requires.0), (omega (arith, c.requires.0), c.requires.0.1.1.1))), (c.requires.1.0, word))
+    record {
+      n_in_bounds = (omega (arith, c.requires.n_in_bounds), (omega (arith, c.requires.n_in_bounds), (omega (arith, c.requires.n_in_bounds), c.requires.n_in_bounds.1.1.1)));
+      x_bound = (c.requires.x_bound.0, word);
+    }
 
 pub loop-c-init : goal.loop-c-init
 loop-c-init g c = words_none c.args.r (among g.row.W c.args.targets.now) (λ y. eqb y c.args.x) (cell c.args.rows.now g.row.W)

@@ -1,4 +1,4 @@
-use Rattle.std.proofs.Common.{◌≡◌, ℕ, ◌*◌, ◌/◌, ◌%◌, ◌<◌, ◌≤◌, Bool, false, ◌&&◌, eqb, ltb, sym, ap, ◌∙◌, inl, inr, arith}
+use Rattle.std.proofs.Common.{◌≡◌, ℕ, ◌*◌, ◌/◌, ◌%◌, ◌≤◌, Bool, false, ◌&&◌, eqb, ltb, ap, ◌∙◌, inl, inr, arith}
 use Rattle.std.proofs.lemmas.Bool.{cases_lt, lt-ltb, le-ltb}
 use Rattle.std.proofs.lemmas.Bool.Decides.{nat_tests}
 use Rattle.bits.specs.Rows.{cell}
@@ -29,5 +29,5 @@ returns g c =
     filled_same _ (cell c.args.rows.now g.row.W) (cell c.loop-c.rows g.row.W) _ _
     (λ z x.
     ap (λ k. eqb (z % 8) c.args.r && (ltb (z / 8 / 64) k && (ltb (z / 8) c.args.n && eqb (x / 64) c.args.g))) end
-    ∙ whole (z / 8) c.args.n g.row.W (eqb (z % 8) c.args.r) (eqb (x / 64) c.args.g) (omega (arith, c.requires.0)))
+    ∙ whole (z / 8) c.args.n g.row.W (eqb (z % 8) c.args.r) (eqb (x / 64) c.args.g) (omega (arith, c.requires.n_in_bounds)))
     c.loop-c.invariant

@@ -1,4 +1,4 @@
-use Rattle.std.proofs.Common.{◌≡◌, ◌+◌, ◌*◌, length, sym, ap, ◌∙◌, inl, inr, arith}
+use Rattle.std.proofs.Common.{◌+◌, ◌*◌, length, sym, ap, ◌∙◌, inl, inr, arith}
 use Rattle.bits.specs.Rows.{cell}
 use Rattle.spans.specs.Paths.{row_words}
 use Rattle.spans.proofs.Wide.{words_cover}

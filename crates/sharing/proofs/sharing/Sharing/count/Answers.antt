@@ -1,4 +1,4 @@
-use Rattle.std.proofs.Common.{◌≡◌, ℕ, ◌+◌, ◌*◌, ◌≤◌, length, sym, ap, ◌∙◌, inl, inr, arith}
+use Rattle.std.proofs.Common.{◌+◌, ◌*◌, length, sym, ap, ◌∙◌, inl, inr, arith}
 use Rattle.bits.specs.Rows.{cell}
 use Rattle.model.specs.Sharing.{can_share}
 use Rattle.spans.specs.Paths.{row_words}

@@ -1,4 +1,4 @@
-use Rattle.std.proofs.Common.{◌≡◌, arith}
+use Rattle.std.proofs.Common.{arith}
 use Rattle.sharing.proofs.Size.{table_is, table_most}
 use Rattle.sharing.proofs.sharing.Sharing.words.Goals as goal
 
