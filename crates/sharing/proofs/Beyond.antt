@@ -1,5 +1,5 @@
 -- Nothing can be shared by, or to, what is not there; so a count may stop at the last vertex.
-use Rattle.std.proofs.Common.{◌≡◌, ℕ, zero, suc, ◌+◌, ◌-◌, ◌<◌, ◌≤◌, Bool, false, cond, T, ◌⊎◌, sym, refl, ap, ◌∙◌, subst, ap₂, inl, inr, add-zero, arith}
+use Rattle.std.proofs.Common.{◌≡◌, ℕ, zero, suc, ◌+◌, ◌-◌, ◌<◌, ◌≤◌, Bool, false, cond, T, refl, ap, ◌∙◌, subst, ap₂, inl, inr, add-zero, arith}
 use Rattle.bits.proofs.Below.{count_same, count_add}
 use Rattle.graph.specs.Graphs.{state}
 use Rattle.graph.specs.declared.graph.Graph.{Graph}
@@ -7,7 +7,7 @@ use Rattle.graph.proofs.Sound.{holder_below, target_below, right_below}
 use Rattle.model.specs.Bounded.{count_below}
 use Rattle.model.specs.Spans.{Grants, itself, through}
 use Rattle.model.specs.State.{is_subject}
-use Rattle.model.specs.Sharing.{can_share, CanShare, CanGet}
+use Rattle.model.specs.Sharing.{can_share, CanShare}
 use Rattle.model.proofs.Tests.{is_false}
 use Rattle.model.proofs.Readings.{subject_vertex, can_share-to}
 

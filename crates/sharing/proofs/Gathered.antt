@@ -5,7 +5,7 @@ use Rattle.std.proofs.lemmas.Bool.{cases_eq, cases_lt, lt-ltb, le-ltb}
 use Rattle.std.proofs.lemmas.Bool.Decides.{nat_tests}
 use Rattle.model.specs.Bit.{bit}
 use Rattle.model.specs.State.{State, WellFormed}
-use Rattle.model.proofs.Tests.{both, parts, cases, left, right, decide, same, eq_test, from_true, SomeBoth, some_both, both_from}
+use Rattle.model.proofs.Tests.{both, parts, cases, left, right, same, from_true, SomeBoth, some_both, both_from}
 use Rattle.spans.proofs.Walk.{Without}
 use Rattle.sharing.specs.Table.{held_by}
 use Rattle.sharing.proofs.Holding.{row_is}

@@ -1,15 +1,14 @@
 -- The two fronts of a search, and what was looked at: what was found and is not left.
-use Rattle.std.proofs.Common.{◌≡◌, ℕ, ◌+◌, ◌<◌, ◌≤◌, Bool, true, false, not, ◌&&◌, ◌||◌, T, eqb, ltb, ◌⊎◌, sym, refl, ap, ◌∙◌, subst, ap₂, inl, inr, arith, eqb→eq, lt→ltb}
+use Rattle.std.proofs.Common.{◌≡◌, ℕ, ◌+◌, ◌<◌, Bool, true, false, not, ◌&&◌, ◌||◌, T, eqb, sym, refl, ap, ◌∙◌, subst, ap₂, inl, inr, arith}
 use mathlib.Core.Path.{fun_ext}
 use Rattle.std.proofs.lemmas.Bool.{cases_eq}
 use Rattle.std.proofs.lemmas.Bool.Decides.{nat_tests}
 use Rattle.bits.specs.Among.{among}
 use Rattle.model.specs.State.{State, WellFormed, is_subject}
-use Rattle.model.specs.Bounded.{only, count_below, all_below, implies}
+use Rattle.model.specs.Bounded.{only, count_below}
 use Rattle.model.specs.Spans.{can_take, can_grant}
 use Rattle.model.specs.Certificates.{out_of}
-use Rattle.model.proofs.Tests.{both, parts, cases, left, right, same, from_true, is_true, all_at, implied}
-use Rattle.model.proofs.Readings.{subject_vertex}
+use Rattle.model.proofs.Tests.{both, same, from_true}
 use Rattle.model.proofs.Right.{Closed}
 use Rattle.model.proofs.Least.{certificate_out}
 use Rattle.spans.proofs.Search.{Searching, None, searching_none, searching_out, searching_into, found_out}

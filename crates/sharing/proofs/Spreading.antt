@@ -1,15 +1,15 @@
 -- What the islands bring: of those that were passed, all that can be got through them.
-use Rattle.std.proofs.Common.{◌≡◌, ℕ, ◌/◌, ◌%◌, ◌<◌, ◌≤◌, Bool, true, false, not, ◌&&◌, ◌||◌, T, eqb, ltb, ◌⊎◌, sym, refl, ap, ◌∙◌, subst, inl, inr, arith, eqb→eq}
-use lib.Dec.{eqb_refl, not_T}
+use Rattle.std.proofs.Common.{◌≡◌, ℕ, ◌/◌, ◌%◌, Bool, false, not, ◌&&◌, ◌||◌, T, sym, refl, subst, inl, inr}
+use lib.Dec.{not_T}
 use Rattle.model.specs.State.{State, WellFormed, is_subject, grant_right}
-use Rattle.model.specs.Bounded.{some_below, only}
+use Rattle.model.specs.Bounded.{only}
 use Rattle.model.specs.Closure.{here}
-use Rattle.model.specs.Spans.{Joins, over, Connected, TakePath, Grants, itself, through, InitialSpan, can_grant}
-use Rattle.model.specs.Sharing.{can_share, CanShare, CanGet}
+use Rattle.model.specs.Spans.{Connected, Grants, itself, through, InitialSpan}
+use Rattle.model.specs.Sharing.{CanShare, CanGet}
 use Rattle.model.specs.Certificates.{inner_of, out_of}
 use Rattle.model.proofs.Tests.{both, parts, cases, left, right, decide, same, SomeBoth, some_both, both_from}
-use Rattle.model.proofs.Stars.{append, one_step}
-use Rattle.model.proofs.Readings.{subject_vertex, can_share-to, can_share-from}
+use Rattle.model.proofs.Stars.{append}
+use Rattle.model.proofs.Readings.{can_share-to, can_share-from}
 use Rattle.model.proofs.Symmetry.{connected_turns}
 use Rattle.model.proofs.Barrier.{Inner, Out, inner_subject}
 use Rattle.model.proofs.Right.{In}

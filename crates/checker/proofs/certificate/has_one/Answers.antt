@@ -5,6 +5,6 @@ use Rattle.checker.proofs.certificate.has_one.Goals as goal
 
 pub returns : goal.returns
 returns c =
-    ap not c.is-empty.ensures ∙
+    ap not c.is_empty.ensures ∙
     one_held c.args.graph.now c.args.p c.args.right (holds c.args.targets.now) (holds c.intersection.result)
     (λ k. c.intersection.ensures k ∙ ap (λ b. b && holds c.args.targets.now k) (c.targets.ensures.value k))

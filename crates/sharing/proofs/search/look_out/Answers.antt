@@ -3,4 +3,4 @@ use Rattle.bits.proofs.Cell.{rows_apart}
 use Rattle.sharing.proofs.search.look_out.Goals as goal
 
 pub at-requires : goal.at-requires
-at-requires g c = let last = rows_apart c.args.p (64 * g.row.W) g.row.W (omega (arith, c.requires.0)) in (omega (arith, c.requires.0), omega (arith, c.requires.0))
+at-requires g c = let last = rows_apart c.args.p (64 * g.row.W) g.row.W (omega (arith, c.requires.graph_bound)) in (omega (arith, c.requires.graph_bound), omega (arith, c.requires.graph_bound))

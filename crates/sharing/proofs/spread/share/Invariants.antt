@@ -1,4 +1,3 @@
-use Rattle.std.proofs.Common.{eqb}
 use Rattle.bits.specs.Among.{among}
 use Rattle.bits.specs.Rows.{cell}
 use Rattle.sharing.proofs.Gathered.{Words}

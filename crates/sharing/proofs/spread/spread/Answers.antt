@@ -1,4 +1,4 @@
-use Rattle.std.proofs.Common.{◌≡◌, ℕ, ◌*◌, ◌<◌, ◌≤◌, ◌||◌, T, length, sym, ap, ◌∙◌, subst, arith}
+use Rattle.std.proofs.Common.{◌≡◌, ◌*◌, ◌≤◌, ◌||◌, T, length, sym, ap, ◌∙◌, subst, arith}
 use Rattle.bits.specs.Among.{among}
 use Rattle.bits.specs.Rows.{cell}
 use Rattle.bits.proofs.Cell.{rows_apart}
@@ -10,7 +10,7 @@ use Rattle.sharing.proofs.Bringing.{Brought, brought_none, brought_more, brought
 use Rattle.sharing.proofs.spread.spread.Goals as goal
 
 pub gather-requires : goal.gather-requires
-gather-requires g c = (omega (arith, c.requires), (c.requires.1.0, (c.requires.1.1, (omega (arith, c.requires), λ r y. no_cells 32 g.row.W r y))))
+gather-requires g c = (omega (arith, c.requires), ((c.requires.1.0, (c.requires.1.1, omega (arith, c.requires))), λ r y. no_cells 32 g.row.W r y))
 
 pub at-requires : goal.at-requires
 at-requires g c = (omega (arith, c.requires), omega (arith, c.requires))

@@ -1,5 +1,4 @@
-use Rattle.std.proofs.Common.{◌≡◌, ◌*◌, Bool, true, false, ◌&&◌, T, ltb, ap, ◌∙◌, inl, inr, arith}
-use Rattle.std.proofs.lemmas.Bool.Decides.{nat_tests}
+use Rattle.std.proofs.Common.{◌*◌, ◌&&◌, ltb, ap, ◌∙◌, arith}
 use Rattle.graph.specs.Graphs.{state}
 use Rattle.graph.proofs.Sound.{target_below}
 use Rattle.sharing.proofs.Holding.{within}

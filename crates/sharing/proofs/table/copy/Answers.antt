@@ -1,4 +1,4 @@
-use Rattle.std.proofs.Common.{◌≡◌, ℕ, ◌+◌, ◌*◌, ◌<◌, Bool, cond, eqb, ltb, ap, ◌∙◌, arith}
+use Rattle.std.proofs.Common.{ℕ, ◌+◌, ◌*◌, Bool, eqb, ltb, ap, arith}
 use Rattle.std.proofs.lemmas.Bool.{le-ltb}
 use Rattle.bits.specs.Rows.{cell}
 use Rattle.bits.proofs.Cell.{rows_apart}
@@ -6,10 +6,10 @@ use Rattle.sharing.proofs.Holding.{row_fits, filled_none, filled_more, filled_at
 use Rattle.sharing.proofs.table.copy.Goals as goal
 
 pub at-holders-requires : goal.at-holders-requires
-at-holders-requires g c = (omega (arith, c.requires.1), row_fits c.args.n g.row.W _ c.loop-y.y c.args.r c.requires.0.0 c.loop-y-test.true c.requires.0.1.1.1)
+at-holders-requires g c = (omega (arith, c.requires.bound), row_fits c.args.n g.row.W _ c.loop-y.y c.args.r c.requires.n_in_bounds.0 c.loop-y-test.true c.requires.n_in_bounds.1.1.1)
 
 pub write-requires : goal.write-requires
-write-requires g c = let last = rows_apart c.loop-y.y c.args.n g.row.W c.loop-y-test.true in (omega (arith, c.requires.1), omega (arith, c.requires.0))
+write-requires g c = let last = rows_apart c.loop-y.y c.args.n g.row.W c.loop-y-test.true in (omega (arith, c.requires.bound), omega (arith, c.requires.n_in_bounds))
 
 pub loop-y-init : goal.loop-y-init
 loop-y-init g c = filled_none _ (cell c.args.to.now g.row.W) _ (λ y x. le-ltb y 0 (omega arith))

@@ -1,4 +1,4 @@
-use Rattle.std.proofs.Common.{◌≡◌, ℕ, ◌+◌, ◌/◌, ◌%◌, Bool, ◌&&◌, ◌||◌, T, eqb, ltb, sym, ap, ◌∙◌, inl, inr, arith}
+use Rattle.std.proofs.Common.{◌≡◌, ℕ, ◌+◌, ◌/◌, ◌%◌, Bool, ◌&&◌, ◌||◌, eqb, ltb, sym, ap, ◌∙◌, inl, inr, arith}
 use Rattle.std.proofs.lemmas.Bool.{cases_eq}
 use Rattle.std.proofs.lemmas.Bool.Decides.{nat_tests}
 use Rattle.bits.specs.Rows.{cell}
@@ -20,7 +20,7 @@ loop-x-init g c = λ i y. start y (cell c.args.rows.now g.row.W i y) (has_row (s
 pub loop-x-preserved : goal.loop-x-preserved
 unfolding has_row
 loop-x-preserved g c = λ i y.
-    step y c.loop-x.x (cell c.args.rows.now g.row.W i y) (cell c.loop-x.rows g.row.W i y) _ ((state c.args.graph.now).has y (i % 8) (i / 8)) _ (c.loop-x.invariant i y) (c.enter-vertex.ensures i y)
+    step y c.loop-x.x (cell c.args.rows.now g.row.W i y) (cell c.loop-x.rows g.row.W i y) _ ((state c.args.graph.now).has y (i % 8) (i / 8)) _ (c.loop-x.invariant i y) (c.enter_vertex.ensures i y)
     (λ d. ap (λ k. (state c.args.graph.now).has k (i % 8) (i / 8)) (sym d))
 
 pub returns : goal.returns

@@ -1,4 +1,4 @@
-use Rattle.std.proofs.Common.{◌≡◌, ℕ, ◌+◌, ◌*◌, ◌/◌, ◌%◌, ◌<◌, ◌≤◌, Bool, ◌&&◌, ◌||◌, T, eqb, ltb, length, sym, ap, ◌∙◌, subst, inl, inr, arith}
+use Rattle.std.proofs.Common.{◌≡◌, ℕ, ◌+◌, ◌*◌, ◌/◌, ◌%◌, ◌≤◌, Bool, ◌&&◌, ◌||◌, T, eqb, ltb, length, sym, ap, ◌∙◌, subst, inl, inr, arith}
 use Rattle.std.proofs.lemmas.Bool.{cases_eq, lt-ltb}
 use Rattle.std.proofs.lemmas.Bool.Decides.{nat_tests}
 use Rattle.bits.specs.Rows.{cell}
@@ -14,19 +14,13 @@ enter-requires g c =
     let few = few_vertices c.args.graph.now in (
       omega (arith, c.requires),
       (
-        subst (λ n. 8 * n * g.row.W ≤ length c.loop-r.rows) (sym c.size.ensures.value) (omega (arith, c.requires)),
         (
-          omega (arith, c.size.ensures.value),
-          (
-            c.requires.1.1.0,
-            (
-              c.loop-r-test.true,
-              (
-                c.requires.1.1.1,
-                λ y t. let l = target_below c.args.graph.now c.args.x c.loop-r.r y (subst T (c.targets.ensures y) t) in omega (arith, c.size.ensures.value),
-              ),
-            ),
-          ),
+          subst (λ n. 8 * n * g.row.W ≤ length c.loop-r.rows) (sym c.size.ensures.value) (omega (arith, c.requires)),
+          (omega (arith, c.size.ensures.value), (c.requires.1.1.0, c.loop-r-test.true)),
+        ),
+        (
+          c.requires.1.1.1,
+          λ y t. let l = target_below c.args.graph.now c.args.x c.loop-r.r y (subst T (c.targets.ensures y) t) in omega (arith, c.size.ensures.value),
         ),
       ),
     )

@@ -1,5 +1,4 @@
-use Rattle.std.proofs.Common.{◌≡◌, ℕ, ◌+◌, ◌*◌, ◌/◌, ◌%◌, ◌<◌, Bool, true, false, ◌&&◌, ◌||◌, T, eqb, refl, ap, ◌∙◌, arith}
-use Rattle.bits.specs.Among.{among}
+use Rattle.std.proofs.Common.{◌≡◌, ◌+◌, ◌*◌, ◌/◌, ◌%◌, ◌<◌, Bool, true, false, ◌&&◌, ◌||◌, eqb, refl, ◌∙◌, arith}
 use Rattle.bits.specs.Rows.{cell}
 use Rattle.model.specs.Bit.{bit}
 use Rattle.model.proofs.Tests.{parts}
@@ -14,13 +13,13 @@ or_turned true false = refl
 or_turned false true = refl
 or_turned false false = refl
 
-pub row-insert-requires : goal.row-insert-requires
-row-insert-requires g c =
+pub row_insert-requires : goal.row_insert-requires
+row_insert-requires g c =
     let t = c.in-Some.ensures in
     let word = shared_target c.args.r (in_word c.args.c c.args.word) (λ y. eqb y c.args.x) (cell c.args.rows.now g.row.W) (cell c.loop-b.rows g.row.W) (in_word c.args.c c.loop-b.rest) (64 * c.args.c + c.in-Some.b) (word_there c.args.c c.loop-b.rest c.in-Some.b t.0 t.1) c.loop-b.invariant in
     let at : (64 * c.args.c + c.in-Some.b) % 64 ≡ c.in-Some.b = omega (arith, t.0) in
-    let below : 64 * c.args.c + c.in-Some.b < c.args.n = omega (arith, c.requires.1.1 ((64 * c.args.c + c.in-Some.b) % 64) (parts (eqb ((64 * c.args.c + c.in-Some.b) / 64) c.args.c) (bit c.args.word ((64 * c.args.c + c.in-Some.b) % 64)) word).1, at) in
-    (row_fits c.args.n g.row.W _ (64 * c.args.c + c.in-Some.b) c.args.r (omega (arith, c.requires.0)) below c.requires.0.1.1.1, c.requires.1.0)
+    let below : 64 * c.args.c + c.in-Some.b < c.args.n = omega (arith, c.requires.x_bound.1 ((64 * c.args.c + c.in-Some.b) % 64) (parts (eqb ((64 * c.args.c + c.in-Some.b) / 64) c.args.c) (bit c.args.word ((64 * c.args.c + c.in-Some.b) % 64)) word).1, at) in
+    (row_fits c.args.n g.row.W _ (64 * c.args.c + c.in-Some.b) c.args.r (omega (arith, c.requires.n_in_bounds)) below c.requires.n_in_bounds.1.1.1, c.requires.x_bound.0)
 
 pub loop-b-init : goal.loop-b-init
 loop-b-init g c = shared_none c.args.r (in_word c.args.c c.args.word) (λ y. eqb y c.args.x) (cell c.args.rows.now g.row.W)
@@ -28,15 +27,15 @@ loop-b-init g c = shared_none c.args.r (in_word c.args.c c.args.word) (λ y. eqb
 pub loop-b-preserved : goal.loop-b-preserved
 loop-b-preserved g c =
     let t = c.in-Some.ensures in
-    shared_more c.args.r (in_word c.args.c c.args.word) (λ y. eqb y c.args.x) (cell c.args.rows.now g.row.W) (cell c.loop-b.rows g.row.W) (cell c.row-insert.new.rows g.row.W)
-    (in_word c.args.c c.loop-b.rest) (in_word c.args.c c.pop-bit.new.word) (64 * c.args.c + c.in-Some.b) c.requires.0.1.1.1
-    (word_there c.args.c c.loop-b.rest c.in-Some.b t.0 t.1) (word_without c.args.c c.loop-b.rest c.pop-bit.new.word c.in-Some.b t.0 t.2)
-    (λ i x. c.row-insert.ensures i x ∙ or_turned (eqb i (8 * (64 * c.args.c + c.in-Some.b) + c.args.r) && eqb x c.args.x) (cell c.loop-b.rows g.row.W i x)) c.loop-b.invariant
+    shared_more c.args.r (in_word c.args.c c.args.word) (λ y. eqb y c.args.x) (cell c.args.rows.now g.row.W) (cell c.loop-b.rows g.row.W) (cell c.row_insert.new.rows g.row.W)
+    (in_word c.args.c c.loop-b.rest) (in_word c.args.c c.pop_bit.new.word) (64 * c.args.c + c.in-Some.b) c.requires.n_in_bounds.1.1.1
+    (word_there c.args.c c.loop-b.rest c.in-Some.b t.0 t.1) (word_without c.args.c c.loop-b.rest c.pop_bit.new.word c.in-Some.b t.0 t.2)
+    (λ i x. c.row_insert.ensures i x ∙ or_turned (eqb i (8 * (64 * c.args.c + c.in-Some.b) + c.args.r) && eqb x c.args.x) (cell c.loop-b.rows g.row.W i x)) c.loop-b.invariant
 
 pub loop-b-smaller : goal.loop-b-smaller
-loop-b-smaller g c = let t = c.in-Some.ensures in fewer (bit c.loop-b.rest) (bit c.pop-bit.new.word) c.in-Some.b t.2 64 t.0 t.1
+loop-b-smaller g c = let t = c.in-Some.ensures in fewer (bit c.loop-b.rest) (bit c.pop_bit.new.word) c.in-Some.b t.2 64 t.0 t.1
 
 pub returns : goal.returns
 returns g c =
     shared_all c.args.r (in_word c.args.c c.args.word) (λ y. eqb y c.args.x) (cell c.args.rows.now g.row.W) (cell c.loop-b.rows g.row.W) (in_word c.args.c c.loop-b.rest)
-    (word_none c.args.c c.loop-b.rest c.in-default.ensures) c.loop-b.invariant
+    (word_none c.args.c c.loop-b.rest c.in_default.ensures) c.loop-b.invariant

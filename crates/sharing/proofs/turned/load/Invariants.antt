@@ -1,4 +1,4 @@
-use Rattle.std.proofs.Common.{ℕ, ◌+◌, ◌*◌, ltb}
+use Rattle.std.proofs.Common.{◌+◌, ◌*◌, ltb}
 use Rattle.bits.specs.Rows.{cell}
 use Rattle.graph.specs.Graphs.{state}
 use Rattle.sharing.proofs.Holding.{Filled}

@@ -1,4 +1,4 @@
-use Rattle.std.proofs.Common.{◌≡◌, ℕ, ◌*◌, ◌/◌, ◌%◌, ◌<◌, ◌≤◌, Bool, false, ◌&&◌, eqb, ltb, sym, ap, ◌∙◌, inl, inr, arith}
+use Rattle.std.proofs.Common.{◌≡◌, ℕ, ◌*◌, ◌/◌, ◌%◌, ◌≤◌, Bool, false, ◌&&◌, eqb, ltb, ap, ◌∙◌, inl, inr, arith}
 use Rattle.std.proofs.lemmas.Bool.{cases_lt, lt-ltb, le-ltb}
 use Rattle.std.proofs.lemmas.Bool.Decides.{nat_tests}
 use Rattle.bits.specs.Rows.{cell}
@@ -13,8 +13,8 @@ loop-c-init g c = filled_none _ (cell c.args.rows.now g.row.W) _ (λ z x. none (
 
 pub loop-c-preserved : goal.loop-c-preserved
 loop-c-preserved g c =
-    filled_more (block_row (cell c.args.block.now g.row.W)) (cell c.args.rows.now g.row.W) (cell c.loop-c.rows g.row.W) (cell c.store-word.new.rows g.row.W) _ _ _
-    (λ z x. next_word (z / 8 / 64) c.loop-c.c (eqb (z % 8) c.args.r) (ltb (z / 8) c.args.n && eqb (x / 64) c.args.g)) c.store-word.ensures c.loop-c.invariant
+    filled_more (block_row (cell c.args.block.now g.row.W)) (cell c.args.rows.now g.row.W) (cell c.loop-c.rows g.row.W) (cell c.store_word.new.rows g.row.W) _ _ _
+    (λ z x. next_word (z / 8 / 64) c.loop-c.c (eqb (z % 8) c.args.r) (ltb (z / 8) c.args.n && eqb (x / 64) c.args.g)) c.store_word.ensures c.loop-c.invariant
 
 whole : (y n w : ℕ) (a d : Bool) → n ≤ 64 * w → (a && (ltb (y / 64) w && (ltb y n && d))) ≡ (a && (ltb y n && d))
 whole y n w a d h =
@@ -29,5 +29,5 @@ returns g c =
     filled_same _ (cell c.args.rows.now g.row.W) (cell c.loop-c.rows g.row.W) _ _
     (λ z x.
     ap (λ k. eqb (z % 8) c.args.r && (ltb (z / 8 / 64) k && (ltb (z / 8) c.args.n && eqb (x / 64) c.args.g))) end
-    ∙ whole (z / 8) c.args.n g.row.W (eqb (z % 8) c.args.r) (eqb (x / 64) c.args.g) (omega (arith, c.requires.0)))
+    ∙ whole (z / 8) c.args.n g.row.W (eqb (z % 8) c.args.r) (eqb (x / 64) c.args.g) (omega (arith, c.requires.n_in_bounds)))
     c.loop-c.invariant

@@ -1,4 +1,4 @@
-use Rattle.std.proofs.Common.{◌≡◌, ℕ, ◌/◌, ◌%◌, Bool, false, cond, ◌&&◌, eqb, ltb, refl, ap, ◌∙◌, arith}
+use Rattle.std.proofs.Common.{◌≡◌, ℕ, ◌/◌, ◌%◌, Bool, false, cond, ◌&&◌, ltb, refl, ap, ◌∙◌, arith}
 use Rattle.std.proofs.lemmas.Bool.{lt-ltb}
 use Rattle.std.proofs.lemmas.Bool.Decides.{nat_tests}
 use Rattle.bits.specs.Rows.{cell}
@@ -16,8 +16,8 @@ loop-r-init g c = (refl, filled_none _ (cell c.args.rows.now g.row.W) _ (λ z x.
 pub loop-r-preserved : goal.loop-r-preserved
 loop-r-preserved g c = (
   omega arith,
-  filled_more (has_row (state c.args.graph.now)) (cell c.args.rows.now g.row.W) (cell c.loop-r.rows g.row.W) (cell c.turn-right.new.rows g.row.W) _ _ _
-      (λ z x. next_first (z % 8) c.loop-r.r (ltb (z / 8) (state c.args.graph.now).size)) c.turn-right.ensures c.loop-r.invariant.1,
+  filled_more (has_row (state c.args.graph.now)) (cell c.args.rows.now g.row.W) (cell c.loop-r.rows g.row.W) (cell c.turn_right.new.rows g.row.W) _ _ _
+      (λ z x. next_first (z % 8) c.loop-r.r (ltb (z / 8) (state c.args.graph.now).size)) c.turn_right.ensures c.loop-r.invariant.1,
 )
 
 pub returns : goal.returns

@@ -1,4 +1,4 @@
-use Rattle.std.proofs.Common.{◌≡◌, ℕ, ◌*◌, ◌/◌, ◌%◌, ◌<◌, ◌≤◌, Bool, true, false, cond, ◌&&◌, eqb, ltb, sym, refl, ap, ◌∙◌, inl, inr, arith}
+use Rattle.std.proofs.Common.{◌≡◌, ℕ, ◌*◌, ◌/◌, ◌%◌, Bool, true, false, cond, ◌&&◌, eqb, ltb, ap, ◌∙◌, inl, inr, arith}
 use Rattle.std.proofs.lemmas.Bool.{cases_lt, lt-ltb}
 use Rattle.std.proofs.lemmas.Bool.Decides.{nat_tests}
 use Rattle.bits.specs.Rows.{cell}
@@ -16,8 +16,8 @@ loop-g-init g c = filled_none _ (cell c.args.rows.now g.row.W) _ (λ z x. none (
 
 pub loop-g-preserved : goal.loop-g-preserved
 loop-g-preserved g c =
-    filled_more (has_row (state c.args.graph.now)) (cell c.args.rows.now g.row.W) (cell c.loop-g.rows g.row.W) (cell c.turn-word.new.rows g.row.W) _ _ _
-    (λ z x. next_last (x / 64) c.loop-g.g (eqb (z % 8) c.args.r) (ltb (z / 8) (state c.args.graph.now).size)) c.turn-word.ensures c.loop-g.invariant
+    filled_more (has_row (state c.args.graph.now)) (cell c.args.rows.now g.row.W) (cell c.loop-g.rows g.row.W) (cell c.turn_word.new.rows g.row.W) _ _ _
+    (λ z x. next_last (x / 64) c.loop-g.g (eqb (z % 8) c.args.r) (ltb (z / 8) (state c.args.graph.now).size)) c.turn_word.ensures c.loop-g.invariant
 
 both_true : (a b c : Bool) → c ≡ true → (a && (b && c)) ≡ (a && b)
 both_true a b c e = grind (arith, nat_tests)
@@ -33,6 +33,6 @@ returns g c = λ z x.
           c.loop-g.invariant z x
           ∙ ap (λ b. cond b (has_row s z x) (cell c.args.rows.now g.row.W z x)) (both_true (eqb (z % 8) c.args.r) (ltb (z / 8) s.size) _ (lt-ltb (x / 64) c.loop-g.g (omega arith)))
       | inr l ↦
-          either (eqb (z % 8) c.args.r && ltb (z / 8) s.size) _ _ _ (cell_past c.loop-g.rows g.row.W z x l) (past_holder c.args.graph.now z x (omega (arith, c.requires.0)))
+          either (eqb (z % 8) c.args.r && ltb (z / 8) s.size) _ _ _ (cell_past c.loop-g.rows g.row.W z x l) (past_holder c.args.graph.now z x (omega (arith, c.requires.graph_in_bounds)))
           (cell_past c.args.rows.now g.row.W z x l)
     ]

@@ -1,4 +1,4 @@
-use Rattle.std.proofs.Common.{◌≡◌, ℕ, ◌+◌, ◌*◌, ◌/◌, ◌%◌, ◌<◌, Bool, true, ◌&&◌, eqb, ltb, sym, ap, ◌∙◌, ap₂, arith}
+use Rattle.std.proofs.Common.{◌≡◌, ℕ, ◌+◌, ◌*◌, ◌/◌, ◌%◌, ◌<◌, true, ◌&&◌, eqb, ltb, sym, ap, ◌∙◌, ap₂, arith}
 use Rattle.std.proofs.lemmas.Bool.Decides.{nat_tests}
 use Rattle.bits.specs.Rows.{cell}
 use Rattle.graph.specs.Graphs.{state}
@@ -22,7 +22,7 @@ returns g c =
     let col : (64 * (i / 8 / 64) + x % 64) % 64 ≡ x % 64 = omega arith in
     let row : 64 * ((64 * (i / 8 / 64) + x % 64) / 64) + i / 8 % 64 ≡ i / 8 = omega arith in
     let who : 64 * c.args.g + x % 64 ≡ x = omega arith in
-    c.transpose.ensures (i / 8 % 64) (64 * (i / 8 / 64) + x % 64) (omega arith) (omega (arith, c.requires.0))
+    c.transpose.ensures (i / 8 % 64) (64 * (i / 8 / 64) + x % 64) (omega arith) (omega (arith, c.requires.graph_in_bounds))
     ∙ (ap₂ (cell c.load.new.block g.row.W) col row ∙ (c.load.ensures (x % 64) (i / 8) (omega arith) ∙ ap₂ (λ a b. s.has a b (i / 8)) who (sym right))))
     (filled_same _ (cell c.args.rows.now g.row.W) (cell c.store.new.rows g.row.W) _ _
     (λ i x. ap (λ n. eqb (i % 8) c.args.r && (ltb (i / 8) n && eqb (x / 64) c.args.g)) c.size.ensures.value) c.store.ensures)

@@ -7,4 +7,4 @@ use Rattle.checker.proofs.certificate.Certificate.standing.Goals as goal
 pub returns : goal.returns
 returns c =
     standing_fits-law (state c.args.graph.now) (holds c.args.holders.now) (certificate c.args.self.now) c.args.p _ _ _ _ _
-    c.requires c.is-subject.ensures.value c.contains.ensures c.contains-2.ensures c.contains-3.ensures c.contains-4.ensures
+    c.requires c.is_subject.ensures.value c.contains.ensures c.contains-2.ensures c.contains-3.ensures c.contains-4.ensures

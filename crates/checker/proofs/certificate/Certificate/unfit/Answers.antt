@@ -13,28 +13,28 @@ use Rattle.checker.specs.declared.fault.CheckFault.TheVariants.{UnfitVertex}
 use Rattle.checker.proofs.Conditions.{take_broken-law, grant_broken-law}
 use Rattle.checker.proofs.certificate.Certificate.unfit.Goals as goal
 
-vertex : (c : goal.After-or-2) → c.then-some.result ≡ vertex_at (state c.args.graph.now) (holds c.args.holders.now) (certificate c.args.self.now) c.args.p
+vertex : (c : goal.After-or-2) → c.then_some.result ≡ vertex_at (state c.args.graph.now) (holds c.args.holders.now) (certificate c.args.self.now) c.args.p
 vertex c =
-    c.then-some.ensures ∙
+    c.then_some.ensures ∙
     ap (λ b. then_some (not b) (UnfitVertex c.args.p)) (c.fits-fits.ensures ∙ c.standing.ensures)
 
-takes : (c : goal.After-or-2) → c.first-right.result ≡ first_below (state c.args.graph.now).size (taking_at (state c.args.graph.now) (certificate c.args.self.now) c.args.p)
+takes : (c : goal.After-or-2) → c.first_right.result ≡ first_below (state c.args.graph.now).size (taking_at (state c.args.graph.now) (certificate c.args.self.now) c.args.p)
 takes c =
     let s = state c.args.graph.now in
     let sets = certificate c.args.self.now in
     let p = c.args.p in
-    c.first-right.ensures s.size (λ k. s.has p take_right k && not (take_fits sets p k))
-    (λ k. take_broken-law s sets p k ∙ sym (c.unfit-takes-takes.ensures k))
+    c.first_right.ensures s.size (λ k. s.has p take_right k && not (take_fits sets p k))
+    (λ k. take_broken-law s sets p k ∙ sym (c.unfit_takes-takes.ensures k))
     (λ k t. target_below c.args.graph.now p take_right k (parts (s.has p take_right k) _ t).0)
 
-grants : (c : goal.After-or-2) → c.first-right-2.result ≡ first_below (state c.args.graph.now).size (grant_at (state c.args.graph.now) (holds c.args.holders.now) (certificate c.args.self.now) c.args.p)
+grants : (c : goal.After-or-2) → c.first_right-2.result ≡ first_below (state c.args.graph.now).size (grant_at (state c.args.graph.now) (holds c.args.holders.now) (certificate c.args.self.now) c.args.p)
 grants c =
     let s = state c.args.graph.now in
     let X = holds c.args.holders.now in
     let sets = certificate c.args.self.now in
     let p = c.args.p in
-    c.first-right-2.ensures s.size (λ k. s.has p grant_right k && not (grant_fits X sets p k))
-    (λ k. grant_broken-law s X sets p k ∙ sym (c.unfit-grants-grants.ensures k))
+    c.first_right-2.ensures s.size (λ k. s.has p grant_right k && not (grant_fits X sets p k))
+    (λ k. grant_broken-law s X sets p k ∙ sym (c.unfit_grants-grants.ensures k))
     (λ k t. target_below c.args.graph.now p grant_right k (parts (s.has p grant_right k) _ t).0)
 
 pub returns : goal.returns

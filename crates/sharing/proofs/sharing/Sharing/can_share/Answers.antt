@@ -1,4 +1,4 @@
-use Rattle.std.proofs.Common.{◌≡◌, ◌+◌, ◌*◌, length, sym, ap, ◌∙◌, inl, inr, arith}
+use Rattle.std.proofs.Common.{◌+◌, ◌*◌, length, sym, ap, ◌∙◌, inl, inr, arith}
 use Rattle.bits.specs.Rows.{cell}
 use Rattle.spans.specs.Paths.{row_words}
 use Rattle.spans.proofs.Wide.{words_cover}
@@ -19,8 +19,8 @@ returns-then-x-n c =
           elim c.then-x-n.either [ inl l ↦ omega arith | inr e ↦ elim e [ inl l ↦ let m = l.1 in omega arith | inr f ↦ let m = f.2 in omega arith ] ]));
     }
 
-pub row-contains-requires : goal.row-contains-requires
-row-contains-requires c =
+pub row_contains-requires : goal.row_contains-requires
+row_contains-requires c =
     let size = c.size-n.ensures.value in
     let cover = words_cover c.size-n.result c.width.result c.width.ensures (omega arith) in (
       row_there c.size-n.result c.width.result (length c.args.self.now.rows.now) c.args.y c.args.r c.width.ensures
@@ -32,7 +32,7 @@ pub returns : goal.returns
 returns c =
     record {
       value =
-          c.row-contains.ensures
+          c.row_contains.ensures
           ∙ ap (λ w. cell c.args.self.now.rows.now w (8 * c.args.y + c.args.r) c.args.x) (c.width.ensures ∙ ap row_words c.size-n.ensures.value)
           ∙ c.args.self.now.shared (8 * c.args.y + c.args.r) c.args.x
           ∙ row_says (answered c.args.self.now) c.args.x c.args.r c.args.y (omega arith);

@@ -1,4 +1,4 @@
-use Rattle.std.proofs.Common.{◌≡◌, ℕ, ◌+◌, ◌*◌, ◌≤◌, length, sym, ap, ◌∙◌, inl, inr, arith}
+use Rattle.std.proofs.Common.{◌+◌, ◌*◌, length, sym, ap, ◌∙◌, inl, inr, arith}
 use Rattle.bits.specs.Rows.{cell}
 use Rattle.model.specs.Sharing.{can_share}
 use Rattle.spans.specs.Paths.{row_words}
@@ -19,8 +19,8 @@ returns-then-y-n c =
           elim c.then-y-n.either [ inl l ↦ omega arith | inr e ↦ let l = e.1 in omega arith ])));
     }
 
-pub row-count-requires : goal.row-count-requires
-row-count-requires c =
+pub row_count-requires : goal.row_count-requires
+row_count-requires c =
     let size = c.size-n.ensures.value in
     let most = words_most c.size-n.result in (
       row_there c.size-n.result c.width.result (length c.args.self.now.rows.now) c.args.y c.args.r c.width.ensures
@@ -34,7 +34,7 @@ returns c =
     let cover = words_cover c.size-n.result c.width.result c.width.ensures (omega arith) in
     record {
       value =
-          c.row-count.ensures
+          c.row_count.ensures
           ∙ count_stops (64 * c.width.result) (answered c.args.self.now).size _ (λ x. can_share (answered c.args.self.now) x c.args.r c.args.y) (omega arith)
           (λ x.
           ap (λ w. cell c.args.self.now.rows.now w (8 * c.args.y + c.args.r) x) (c.width.ensures ∙ ap row_words size)
