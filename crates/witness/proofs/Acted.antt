@@ -11,7 +11,7 @@ use Rattle.graph.specs.declared.outcome.Outcome.{Outcome}
 use Rattle.graph.specs.declared.outcome.Outcome.TheVariants.{Done, Refused}
 use Rattle.codec.specs.Acts.{act_bytes}
 use Rattle.witness.specs.declared.plan.Plan.{Plan}
-use Rattle.witness.specs.Plans.{acts_bytes, done, At, Halted}
+use Rattle.witness.specs.Plans.{acts_bytes, At, Halted}
 use Rattle.witness.proofs.Going.{acts_more, done_more}
 use Rattle.witness.proofs.Performed.{performed_last, performed_more}
 

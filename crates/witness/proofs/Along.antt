@@ -1,11 +1,11 @@
 -- Taking along a path, vertex by vertex.
-use Rattle.std.proofs.Common.{◌≡◌, ℕ, suc, ◌+◌, ◌<◌, ◌≤◌, Bool, true, false, cond, List, [], ◌∷◌, ◌++◌, length, get_or, drop, sym, refl, ap, ◌∙◌, subst, ap₂, add-one, arith, drop-cons}
+use Rattle.std.proofs.Common.{◌≡◌, ℕ, ◌+◌, ◌<◌, Bool, true, false, cond, List, [], ◌∷◌, length, get_or, drop, sym, ap, ◌∙◌, subst, add-one, drop-cons}
 use Rattle.model.specs.State.{State, take_right}
 use Rattle.model.specs.Exact.{Work, doing, taking, taking_unless_held, taking_along}
 use Rattle.graph.specs.Graphs.{state}
 use Rattle.witness.specs.declared.plan.Plan.{Plan}
-use Rattle.witness.specs.Plans.{At, Halted, Goes}
-use Rattle.witness.proofs.Going.{Grows, grows_not, grows_then, grows_doing, halted_on}
+use Rattle.witness.specs.Plans.{At, Halted}
+use Rattle.witness.proofs.Going.{Grows, grows_not, grows_doing, halted_on}
 
 pub grows_either : (v w u : Work) (c : Bool) → Grows v w → Grows v u → Grows v (cond c w u)
 grows_either v w u true g h = g

@@ -1,5 +1,5 @@
 -- Bridges from sets: take paths either way, and those that meet at a grant.
-use Rattle.std.proofs.Common.{◌≡◌, ℕ, zero, suc, ◌+◌, ◌<◌, ◌≤◌, Bool, true, false, cond, ◌&&◌, ◌||◌, T, eqb, ltb, ◌⊎◌, List, length, set, sym, refl, ap, ◌∙◌, subst, ap₂, inl, inr, arith, ltb→lt, lt→ltb}
+use Rattle.std.proofs.Common.{◌≡◌, ℕ, ◌+◌, ◌<◌, ◌≤◌, Bool, true, false, ◌&&◌, ◌||◌, T, eqb, ltb, List, length, set, sym, refl, ap, ◌∙◌, ap₂, inl, inr, arith, lt→ltb}
 use mathlib.Core.Path.{fun_ext}
 use Rattle.std.proofs.lemmas.Bool.{cases_eq, cases_lt, cases_Bool, lt-ltb, le-ltb, eq-eqb, ne_eqb, cond-true, cond-false}
 use Rattle.std.proofs.lemmas.Bool.Decides.{nat_tests}
@@ -7,13 +7,11 @@ use Rattle.bits.specs.Sets.{holds}
 use Rattle.bits.specs.declared.set.VertexSet.{VertexSet}
 use Rattle.graph.specs.Table.{in_row}
 use Rattle.graph.proofs.Rows.{row_set}
-use Rattle.model.specs.State.{State, WellFormed, is_vertex, is_subject, take_right, grant_right}
+use Rattle.model.specs.State.{State, WellFormed, is_vertex, is_subject, grant_right}
 use Rattle.model.specs.Bounded.{some_below}
-use Rattle.model.specs.Closure.{within}
-use Rattle.model.specs.Spans.{can_take, can_grant, take_path, meet, bridge}
-use Rattle.model.proofs.Tests.{both, parts, cases, same, is_true, is_false, from_true, SomeBoth, some_both, both_from}
+use Rattle.model.specs.Spans.{can_grant, take_path, meet, bridge}
+use Rattle.model.proofs.Tests.{both, parts, cases, same, is_false, from_true, some_both, both_from}
 use Rattle.model.proofs.Readings.{subject_vertex}
-use Rattle.model.proofs.Rounds.{first_step-law}
 use Rattle.spans.specs.Paths.{path_from}
 use Rattle.witness.proofs.Gathered.{some_narrow}
 use Rattle.witness.specs.Beside.{beside_some, near}

@@ -1,13 +1,13 @@
 -- The sets among which vertices are chosen, as the tests of the exact witness.
-use Rattle.std.proofs.Common.{◌≡◌, ℕ, ◌<◌, ◌≤◌, Bool, true, false, ◌&&◌, ◌||◌, T, eqb, ◌⊎◌, sym, refl, ap, ◌∙◌, subst, ap₂, inl, inr, arith, eqb→eq}
+use Rattle.std.proofs.Common.{◌≡◌, ℕ, ◌<◌, Bool, true, false, ◌&&◌, ◌||◌, T, sym, refl, ap, ◌∙◌, subst, ap₂, eqb→eq}
 use mathlib.Core.Path.{fun_ext}
 use lib.Dec.{eqb_refl}
 use Rattle.model.specs.State.{State, WellFormed, is_subject, grant_right}
 use Rattle.model.specs.Bounded.{some_below, only}
-use Rattle.model.specs.Spans.{take_path, bridge, can_grant, connected, initial_span, terminal_span, Grants, itself, through, InitialSpan, Connected}
+use Rattle.model.specs.Spans.{take_path, bridge, can_grant, connected, initial_span, terminal_span, Grants, itself, through, InitialSpan}
 use Rattle.model.specs.Certificates.{inner_of, out_of}
 use Rattle.model.specs.Sharing.{can_get}
-use Rattle.model.specs.Exact.{meeting, near_end, far_end, last_holder, reaching, holder_for, last_for, first_for, lowest}
+use Rattle.model.specs.Exact.{meeting, near_end, reaching, holder_for, last_for, first_for, lowest}
 use Rattle.model.proofs.Tests.{both, parts, same, some_both, both_from, some_below-law, some_from}
 use Rattle.model.proofs.Stars.{along}
 use Rattle.model.proofs.Least.{get_by_out}

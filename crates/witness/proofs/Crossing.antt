@@ -1,12 +1,12 @@
 -- Each way over a bridge, and a row of them, goes on from where it begins.
-use Rattle.std.proofs.Common.{◌≡◌, ℕ, suc, ◌+◌, ◌<◌, Bool, true, false, cond, eqb, List, [], ◌∷◌, length, sym, refl, ap, ◌∙◌, subst, ap₂}
+use Rattle.std.proofs.Common.{◌≡◌, ℕ, true, false, cond, eqb, List, [], ◌∷◌, length, sym, ap, ◌∙◌, subst, ap₂}
 use Rattle.std.proofs.lemmas.Bool.{eq-eqb, ne_eqb, cond-true, cond-false}
 use Rattle.model.specs.State.{State, grant_right}
 use Rattle.model.specs.Spans.{take_path, can_grant}
 use Rattle.model.specs.Exact.{Work, doing, granting, creating, taking_to, taking_unless_held, shortest_path, fetched, left, passed, asked, near_end, far_end, over_bridge, over_row, last_holder, handed_to}
 use Rattle.witness.specs.declared.plan.Plan.{Plan}
 use Rattle.witness.specs.Plans.{At, Halted}
-use Rattle.witness.proofs.Going.{Grows, grows_not, grows_then, grows_doing, halted_on}
+use Rattle.witness.proofs.Going.{Grows, grows_not, grows_doing, halted_on}
 use Rattle.witness.proofs.Along.{grows_either, grows_held, grows_along}
 
 module _ (s : State) where

@@ -1,5 +1,5 @@
 -- A plan goes on: one more act, and what can't be reached any more.
-use Rattle.std.proofs.Common.{◌≡◌, ℕ, T, List, [], ◌∷◌, ◌++◌, length, drop, sym, refl, ap, ◌∙◌, subst, ap₂, append_assoc, append-nil, arith, length-append}
+use Rattle.std.proofs.Common.{◌≡◌, ℕ, T, List, [], ◌∷◌, ◌++◌, length, drop, sym, refl, ap, ◌∙◌, subst, append_assoc, append-nil, arith, length-append}
 use Rattle.model.specs.State.{State}
 use Rattle.model.specs.Rules.{applied}
 use Rattle.model.specs.Exact.{Work, doing}

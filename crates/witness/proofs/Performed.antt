@@ -1,5 +1,5 @@
 -- Rules that are performed: those that may be applied in turn, if there is room for what they create.
-use Rattle.std.proofs.Common.{◌≡◌, ℕ, suc, ◌+◌, ◌≤◌, Bool, true, false, cond, ◌&&◌, T, eqb, List, [], ◌∷◌, ◌++◌, sym, refl, subst, arith, eqb→eq}
+use Rattle.std.proofs.Common.{◌≡◌, ◌+◌, ◌≤◌, Bool, true, false, cond, ◌&&◌, T, eqb, List, [], ◌∷◌, ◌++◌, arith, eqb→eq}
 use Rattle.model.specs.State.{State}
 use Rattle.model.specs.Rules.{applicable, applied, all_applicable}
 use Rattle.model.specs.Plans.{creation, creations}

@@ -1,5 +1,5 @@
 -- Rows over a table that says what a relation says.
-use Rattle.std.proofs.Common.{◌≡◌, ℕ, ◌<◌, Bool, T, List, sym, ap, ◌∙◌, subst, ap₂}
+use Rattle.std.proofs.Common.{◌≡◌, ℕ, ◌<◌, Bool, T, List, sym, ◌∙◌, subst, ap₂}
 use mathlib.Core.Path.{fun_ext}
 use Rattle.bits.specs.declared.set.VertexSet.{VertexSet}
 use Rattle.graph.specs.Table.{in_row}

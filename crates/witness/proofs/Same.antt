@@ -1,5 +1,5 @@
 -- The links of routes are those of the routes' graph.
-use Rattle.std.proofs.Common.{◌≡◌, ℕ, Bool, ap, ◌∙◌}
+use Rattle.std.proofs.Common.{◌≡◌, ℕ, ap, ◌∙◌}
 use mathlib.Core.Path.{fun_ext}
 use Rattle.model.specs.State.{State}
 use Rattle.graph.proofs.States.{same_state}

@@ -1,13 +1,12 @@
 -- Take paths to vertices start at vertices; and a take path leads from anything to itself.
-use Rattle.std.proofs.Common.{◌≡◌, ℕ, ◌<◌, ◌≤◌, Bool, true, false, ◌&&◌, ◌||◌, T, eqb, ltb, ◌⊎◌, sym, refl, ap, ◌∙◌, subst, inl, inr, arith, eqb→eq}
-use Rattle.std.proofs.lemmas.Bool.{cases_eq, cases_lt}
-use Rattle.model.specs.State.{State, WellFormed, is_vertex, take_right}
-use Rattle.model.specs.Closure.{Star, here, next}
-use Rattle.model.specs.Spans.{take_path, TakePath, can_take}
+use Rattle.std.proofs.Common.{◌≡◌, ℕ, ◌<◌, ◌||◌, T, eqb, ◌⊎◌, refl, subst, inl, inr, arith, eqb→eq}
+use Rattle.model.specs.State.{State, WellFormed, take_right}
+use Rattle.model.specs.Closure.{here, next}
+use Rattle.model.specs.Spans.{take_path, TakePath}
 use Rattle.model.proofs.Tests.{cases, left, right, eq_test, same}
 use Rattle.model.proofs.Readings.{take_path-to, take_path-from}
 use Rattle.spans.specs.Paths.{path_from}
-use Rattle.witness.proofs.Bridging.{path_to, path_from-law, path_of}
+use Rattle.witness.proofs.Bridging.{path_to, path_from-law}
 
 module _ (s : State) (wf : WellFormed s) where
   -- A take path leads from a vertex, or it stays where it is.

@@ -1,4 +1,4 @@
-use Rattle.std.proofs.Common.{◌≡◌, Bool, ◌&&◌, T, ltb, sym, ap, ◌∙◌, subst, arith}
+use Rattle.std.proofs.Common.{ltb, ◌∙◌, arith}
 use Rattle.std.proofs.lemmas.Bool.{lt-ltb}
 use Rattle.graph.specs.Graphs.{state}
 use Rattle.graph.proofs.Sound.{well_formed-law}

@@ -1,5 +1,4 @@
-use Rattle.std.proofs.Common.{◌≡◌, ℕ, Bool, true, false, ◌||◌, eqb, sym, refl, ap, ◌∙◌, arith, length-set}
-use Rattle.std.proofs.lemmas.Bool.Decides.{nat_tests}
+use Rattle.std.proofs.Common.{◌≡◌, Bool, true, false, ◌||◌, eqb, sym, refl, ◌∙◌, arith, length-set}
 use Rattle.bits.specs.Sets.{holds}
 use Rattle.model.specs.Closure.{within}
 use Rattle.witness.specs.Rows.{turned}

@@ -1,4 +1,4 @@
-use Rattle.std.proofs.Common.{◌≡◌, ℕ, ◌-◌, Bool, ◌&&◌, T, List, replicate, sym, refl, ap, ◌∙◌, subst, arith, length-set}
+use Rattle.std.proofs.Common.{◌≡◌, ℕ, ◌-◌, Bool, ◌&&◌, T, List, replicate, refl, ap, ◌∙◌, subst, arith, length-set}
 use mathlib.Core.Path.{fun_ext}
 use Rattle.bits.specs.declared.set.VertexSet.{VertexSet}
 use Rattle.graph.specs.Table.{in_row}

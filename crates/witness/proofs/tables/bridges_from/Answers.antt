@@ -1,4 +1,4 @@
-use Rattle.std.proofs.Common.{◌≡◌, ◌≤◌, sym, ◌∙◌, arith}
+use Rattle.std.proofs.Common.{◌≤◌, sym, ◌∙◌, arith}
 use Rattle.bits.specs.Sets.{holds}
 use Rattle.graph.specs.Graphs.{state}
 use Rattle.graph.specs.Table.{in_row}

@@ -1,4 +1,4 @@
-use Rattle.std.proofs.Common.{◌≡◌, T, refl, subst, arith, length-set}
+use Rattle.std.proofs.Common.{◌≡◌, refl, subst, arith, length-set}
 use Rattle.graph.specs.Graphs.{state}
 use Rattle.graph.specs.Table.{in_row}
 use Rattle.graph.proofs.Rows.{bare_row}

@@ -1,6 +1,5 @@
-use Rattle.std.proofs.Common.{◌≡◌, ℕ, Bool, ◌&&◌, ap, ◌∙◌, ap₂}
+use Rattle.std.proofs.Common.{◌&&◌, ap, ◌∙◌, ap₂}
 use mathlib.Core.Path.{fun_ext}
-use Rattle.bits.specs.Sets.{holds}
 use Rattle.graph.specs.Table.{in_row}
 use Rattle.graph.proofs.Sound.{well_formed-law}
 use Rattle.model.specs.Bounded.{only}

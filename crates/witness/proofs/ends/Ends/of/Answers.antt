@@ -1,8 +1,8 @@
-use Rattle.std.proofs.Common.{◌≡◌, ℕ, ◌<◌, Bool, true, false, ◌&&◌, T, sym, ap, ◌∙◌, subst, ap₂}
+use Rattle.std.proofs.Common.{◌≡◌, ℕ, ◌&&◌, T, sym, ap, ◌∙◌, subst, ap₂}
 use mathlib.Core.Path.{fun_ext}
 use Rattle.bits.specs.Sets.{holds}
 use Rattle.graph.proofs.Sound.{well_formed-law}
-use Rattle.model.specs.Bounded.{only, some_below}
+use Rattle.model.specs.Bounded.{only}
 use Rattle.model.specs.Certificates.{inner_of, into_of, out_of}
 use Rattle.model.specs.Exact.{lowest}
 use Rattle.model.specs.Spans.{connected}

@@ -1,4 +1,4 @@
-use Rattle.std.proofs.Common.{◌≡◌, sym, refl, arith}
+use Rattle.std.proofs.Common.{refl, arith}
 use Rattle.witness.proofs.Acted.{acted, no_end, no_space, refused}
 use Rattle.witness.proofs.plan.Plan.act.Goals as goal
 

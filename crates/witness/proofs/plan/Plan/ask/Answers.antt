@@ -1,7 +1,7 @@
-use Rattle.std.proofs.Common.{◌≡◌, ℕ, length, ap, ◌∙◌, subst}
+use Rattle.std.proofs.Common.{ℕ, length, ap, ◌∙◌, subst}
 use Rattle.std.proofs.lemmas.Result.{err_from_is_err_and}
 use Rattle.model.specs.State.{State}
-use Rattle.model.specs.Exact.{Work, doing, creating, granting, taking_to, asked}
+use Rattle.model.specs.Exact.{doing, creating, granting, taking_to, asked}
 use Rattle.witness.specs.Of.{routed}
 use Rattle.witness.specs.Plans.{Goes, Halted}
 use Rattle.witness.proofs.Going.{grows_not, halted_on}

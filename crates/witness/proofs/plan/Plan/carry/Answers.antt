@@ -1,7 +1,7 @@
-use Rattle.std.proofs.Common.{◌≡◌, ℕ, List, length, refl, ◌∙◌, subst}
+use Rattle.std.proofs.Common.{ℕ, List, length, refl, ◌∙◌, subst}
 use Rattle.std.proofs.lemmas.Result.{err_from_is_err_and}
 use Rattle.model.specs.Spans.{bridge}
-use Rattle.model.specs.Exact.{Work, taking_to, over_row, handed_to, shortest_row_of}
+use Rattle.model.specs.Exact.{taking_to, over_row, handed_to, shortest_row_of}
 use Rattle.witness.specs.Of.{routed}
 use Rattle.witness.specs.Plans.{Goes, Halted}
 use Rattle.witness.proofs.Going.{grows_not, halted_on, relaid}

@@ -1,7 +1,6 @@
-use Rattle.std.proofs.Common.{◌≡◌, ℕ, true, false, cond, eqb, length, sym, ap, ◌∙◌, subst, ap₂, arith}
+use Rattle.std.proofs.Common.{length, sym, subst, arith}
 use Rattle.std.proofs.lemmas.Result.{err_from_is_err_and}
-use Rattle.std.proofs.lemmas.Bool.{eq-eqb, ne_eqb}
-use Rattle.model.specs.Exact.{Work, doing, granting, taking_to, handed_to}
+use Rattle.model.specs.Exact.{Work, granting, taking_to}
 use Rattle.witness.specs.Of.{routed}
 use Rattle.witness.specs.Plans.{At, Goes, Halted}
 use Rattle.witness.proofs.Going.{grows_not, grows_doing, halted_on}

@@ -1,6 +1,6 @@
-use Rattle.std.proofs.Common.{◌≡◌, length}
+use Rattle.std.proofs.Common.{length}
 use Rattle.std.proofs.lemmas.Result.{err_from_is_err_and}
-use Rattle.model.specs.Exact.{Work, doing, granting, taking_to}
+use Rattle.model.specs.Exact.{doing, granting, taking_to}
 use Rattle.witness.specs.Of.{routed}
 use Rattle.witness.proofs.Going.{grows_not, halted_on}
 use Rattle.witness.proofs.Along.{grows_held}

@@ -1,4 +1,4 @@
-use Rattle.std.proofs.Common.{◌≡◌, sym, subst}
+use Rattle.std.proofs.Common.{sym, subst}
 use Rattle.model.specs.Exact.{Work}
 use Rattle.witness.specs.Of.{routed}
 use Rattle.witness.specs.Plans.{Goes}

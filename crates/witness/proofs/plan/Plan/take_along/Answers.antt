@@ -1,7 +1,7 @@
-use Rattle.std.proofs.Common.{◌≡◌, ◌+◌, [], get_or, drop, sym, refl, subst, arith, rules}
+use Rattle.std.proofs.Common.{◌+◌, get_or, drop, refl, subst, arith, rules}
 use Rattle.std.proofs.lemmas.List.{drop_all}
 use Rattle.std.proofs.lemmas.Result.{err_from_is_err_and}
-use Rattle.witness.specs.Plans.{At, Goes}
+use Rattle.witness.specs.Plans.{Goes}
 use Rattle.witness.proofs.Along.{Along, along_more, along_halted, along_end, along_held, rest_more}
 use Rattle.witness.proofs.plan.Plan.take_along.Goals as goal
 use Rattle.witness.proofs.plan.Plan.take_along.Goals.{else-path-test, then-path-test+then-has}

@@ -1,5 +1,5 @@
-use Rattle.std.proofs.Common.{◌≡◌, ℕ, List, sym, ap, ◌∙◌, subst}
-use Rattle.model.specs.Exact.{Work, shortest_row_of, taking_along}
+use Rattle.std.proofs.Common.{ℕ, List, sym, ap, ◌∙◌, subst}
+use Rattle.model.specs.Exact.{shortest_row_of, taking_along}
 use Rattle.model.specs.Spans.{can_take}
 use Rattle.witness.specs.Of.{routed}
 use Rattle.witness.specs.Plans.{Goes}

@@ -1,5 +1,4 @@
-use Rattle.std.proofs.Common.{◌≡◌, sym, subst}
-use Rattle.model.specs.Exact.{Work}
+use Rattle.std.proofs.Common.{sym, subst}
 use Rattle.witness.specs.Plans.{At, Goes}
 use Rattle.witness.proofs.Acted.{held, not_held}
 use Rattle.witness.proofs.plan.Plan.take_unless_held.Goals as goal

@@ -1,11 +1,9 @@
-use Rattle.std.proofs.Common.{◌≡◌, ℕ, Bool, ◌&&◌, ap, ◌∙◌, ap₂}
+use Rattle.std.proofs.Common.{◌&&◌, ◌∙◌, ap₂}
 use mathlib.Core.Path.{fun_ext}
-use Rattle.bits.specs.Sets.{holds}
 use Rattle.graph.specs.Table.{in_row}
 use Rattle.graph.proofs.Sound.{well_formed-law}
 use Rattle.model.specs.Exact.{lowest}
 use Rattle.model.specs.Spans.{can_grant}
-use Rattle.spans.specs.Paths.{path_from}
 use Rattle.witness.specs.Of.{routed}
 use Rattle.witness.proofs.Choosing.{on_path}
 use Rattle.witness.proofs.routes.Routes.last_holder.Goals as goal

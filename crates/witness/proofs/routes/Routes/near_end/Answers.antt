@@ -1,11 +1,10 @@
-use Rattle.std.proofs.Common.{◌≡◌, ℕ, ◌≤◌, Bool, ◌&&◌, ap, ◌∙◌, ap₂, arith}
+use Rattle.std.proofs.Common.{◌≤◌, ◌&&◌, ap, ◌∙◌, ap₂, arith}
 use mathlib.Core.Path.{fun_ext}
 use Rattle.bits.specs.Sets.{holds}
 use Rattle.graph.specs.Table.{in_row}
 use Rattle.graph.proofs.Sound.{few_vertices, well_formed-law}
 use Rattle.witness.proofs.Bridging.{beside_is}
 use Rattle.model.specs.Exact.{lowest}
-use Rattle.spans.specs.Paths.{path_from}
 use Rattle.witness.specs.Beside.{beside_some}
 use Rattle.witness.specs.Of.{routed}
 use Rattle.witness.proofs.Choosing.{near_is}

@@ -1,7 +1,4 @@
-use Rattle.std.proofs.Common.{sym, ap, ◌∙◌}
-use mathlib.Core.Path.{fun_ext}
-use Rattle.graph.specs.Table.{in_row}
-use Rattle.model.specs.Exact.{shortest_row_of}
+use Rattle.std.proofs.Common.{sym, ◌∙◌}
 use Rattle.model.specs.Spans.{can_take}
 use Rattle.witness.specs.Of.{routed}
 use Rattle.witness.proofs.Relation.{table_fits, row_of}

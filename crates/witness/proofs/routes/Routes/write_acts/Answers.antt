@@ -1,4 +1,4 @@
-use Rattle.std.proofs.Common.{◌≡◌, T, List, ◌++◌, length, drop, sym, ap, ◌∙◌, subst, arith}
+use Rattle.std.proofs.Common.{T, List, ◌++◌, length, drop, sym, ap, ◌∙◌, subst, arith}
 use Rattle.graph.proofs.Sound.{well_formed-law}
 use Rattle.model.specs.Exact.{Work}
 use Rattle.model.specs.declared.Rule.{Rule}

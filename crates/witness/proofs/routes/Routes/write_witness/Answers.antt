@@ -1,4 +1,4 @@
-use Rattle.std.proofs.Common.{◌≡◌, ◌||◌, sym, refl, ap₂, arith}
+use Rattle.std.proofs.Common.{◌||◌, sym, refl, ap₂, arith}
 use Rattle.model.specs.Sharing.{can_share}
 use Rattle.witness.specs.Of.{routed}
 use Rattle.witness.proofs.Exactly.{held_answered}

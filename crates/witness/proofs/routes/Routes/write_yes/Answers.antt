@@ -1,4 +1,4 @@
-use Rattle.std.proofs.Common.{◌≡◌, ◌+◌, ◌-◌, List, ◌++◌, length, drop, sym, refl, ap, ◌∙◌, arith}
+use Rattle.std.proofs.Common.{◌+◌, ◌-◌, List, ◌++◌, length, drop, sym, refl, ap, ◌∙◌, arith}
 use Rattle.graph.proofs.Sound.{well_formed-law}
 use Rattle.model.specs.Exact.{exact_work}
 use Rattle.model.specs.declared.Rule.{Rule}
