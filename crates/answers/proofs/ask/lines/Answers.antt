@@ -14,8 +14,8 @@ loop-q-preserved c =
     let s = answered c.args.sharing.now in
     let qs = c.args.questions.now in
     let q = get_or qs c.loop-q.q-index (record { holder = 0; right = 0; target = 0 }) in
-    c.in-ok-extend-from-slice.ensures.items ∙
-    (ap₂ (λ a b. a ++ b) c.loop-q.invariant (c.line.ensures ∙ ap line_of c.can-share.ensures.value) ∙
+    c.in_ok-extend_from_slice.ensures.items ∙
+    (ap₂ (λ a b. a ++ b) c.loop-q.invariant (c.line.ensures ∙ ap line_of c.can_share.ensures.value) ∙
     (sym (lines_more s (take c.loop-q.q-index qs) q) ∙ ap (lines_of s) (sym (take_more qs c.loop-q.q-index (record { holder = 0; right = 0; target = 0 }) c.loop-q-test.true))))
 
 pub returns : goal.returns

@@ -14,22 +14,22 @@ loop-at-init c = (
     whole : (n : ℕ) → n - 0 ≡ n
     whole n = omega arith
 
-pub returns-in-err-question : goal.returns-in-err-question
-returns-in-err-question c =
-    let p = err_from_is_err_and c.from-residual.result c.from-residual.ensures.1 in
+pub returns-in_err-question : goal.returns-in_err-question
+returns-in_err-question c =
+    let p = err_from_is_err_and c.from_residual.result c.from_residual.ensures.1 in
     rw (p.1, p.2)
-    (sym (question_broken c.args.bytes.now c.args.size c.loop-at.at (vec_items c.loop-at.questions) (vec_len c.loop-at.questions) c.loop-at.invariant.1 c.loop-at-test.true c.loop-at.invariant.0 _ c.in-err-question.ensures.value))
+    (sym (question_broken c.args.bytes.now c.args.size c.loop-at.at (vec_items c.loop-at.questions) (vec_len c.loop-at.questions) c.loop-at.invariant.1 c.loop-at-test.true c.loop-at.invariant.0 _ c.in_err-question.ensures.value))
 
-pub returns-in-err-push : goal.returns-in-err-push
-returns-in-err-push c =
-    let p = err_from_is_err_and c.from-residual-in-err-push.result c.from-residual-in-err-push.ensures.1 in
+pub returns-in_err-push : goal.returns-in_err-push
+returns-in_err-push c =
+    let p = err_from_is_err_and c.from_residual-in_err-push.result c.from_residual-in_err-push.ensures.1 in
     rw (p.1, p.2) tt
 
 pub loop-at-preserved : goal.loop-at-preserved
 loop-at-preserved c = (
-  omega (arith, c.in-ok-push.ensures.len, c.in-ok-question.ensures.bound, c.loop-at.invariant.0),
-  ap₂ (λ qs n. behind qs (questions_at (length c.args.bytes.now - n) c.args.bytes.now c.args.size c.in-ok-question.next)) c.in-ok-push.ensures.items c.in-ok-push.ensures.len ∙
-      question_on c.args.bytes.now c.args.size c.loop-at.at (vec_items c.loop-at.questions) (vec_len c.loop-at.questions) c.loop-at.invariant.1 c.loop-at-test.true c.loop-at.invariant.0 c.in-ok-question.question c.in-ok-question.next c.in-ok-question.ensures.value,
+  omega (arith, c.in_ok-push.ensures.len, c.in_ok-question.ensures.bound, c.loop-at.invariant.0),
+  ap₂ (λ qs n. behind qs (questions_at (length c.args.bytes.now - n) c.args.bytes.now c.args.size c.in_ok-question.next)) c.in_ok-push.ensures.items c.in_ok-push.ensures.len ∙
+      question_on c.args.bytes.now c.args.size c.loop-at.at (vec_items c.loop-at.questions) (vec_len c.loop-at.questions) c.loop-at.invariant.1 c.loop-at-test.true c.loop-at.invariant.0 c.in_ok-question.question c.in_ok-question.next c.in_ok-question.ensures.value,
 )
 
 pub returns : goal.returns

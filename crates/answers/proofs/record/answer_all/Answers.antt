@@ -17,8 +17,8 @@ loop-question-preserved c =
     let i = c.loop-question.question-index in
     let q = get_or qs i (record { holder = 0; right = 0; target = 0 }) in
     let more = sym (take_more qs i (record { holder = 0; right = 0; target = 0 }) c.loop-question-test.true) in (
-      c.in-ok-add.ensures.lines ∙ ap (λ t. t ++ line_of (answer_to s q)) c.loop-question.invariant.0 ∙ sym (lines_more s (take i qs) q) ∙ ap (lines_of s) more,
-      c.in-ok-add.ensures.records ∙ ap (λ t. t ++ record_of s q) c.loop-question.invariant.1 ∙ sym (records_more s (take i qs) q) ∙ ap (records_of s) more,
+      c.in_ok-add.ensures.lines ∙ ap (λ t. t ++ line_of (answer_to s q)) c.loop-question.invariant.0 ∙ sym (lines_more s (take i qs) q) ∙ ap (lines_of s) more,
+      c.in_ok-add.ensures.records ∙ ap (λ t. t ++ record_of s q) c.loop-question.invariant.1 ∙ sym (records_more s (take i qs) q) ∙ ap (records_of s) more,
     )
 
 pub returns : goal.returns

@@ -7,13 +7,13 @@ use Rattle.answers.proofs.record.write_sheet.Goals as goal
 pub returns : goal.returns
 returns c =
     let kind : List ℕ = 17 ∷ [] in
-    let a = c.to-be-bytes.result in
-    let b = c.to-be-bytes-2.result in
-    let d = c.to-be-bytes-3.result in
-    subst (Appended c.extend-from-slice-4.result (vec_items c.args.out.now) (vec_items c.extend-from-slice-4.new.self))
-    (append_assoc (kind ++ a) b d ∙ append_assoc kind a (b ++ d) ∙ ap (λ t. 17 ∷ t) (ap₂ (λ x y. x ++ y) c.to-be-bytes.ensures (ap₂ (λ x y. x ++ y) c.to-be-bytes-2.ensures c.to-be-bytes-3.ensures)))
-    (extended c.extend-from-slice-4.result (vec_items c.args.out.now) (vec_items c.extend-from-slice-3.new.self) (vec_items c.extend-from-slice-4.new.self) d ((kind ++ a) ++ b)
-    c.extend-from-slice-4.ensures.items
-    (c.in-ok-extend-from-slice-3.ensures.items
-    ∙ ap (λ t. t ++ b) (c.in-ok-extend-from-slice-2.ensures.items ∙ ap (λ t. t ++ a) c.in-ok-extend-from-slice.ensures.items ∙ append_assoc (vec_items c.args.out.now) kind a)
+    let a = c.to_be_bytes.result in
+    let b = c.to_be_bytes-2.result in
+    let d = c.to_be_bytes-3.result in
+    subst (Appended c.extend_from_slice-4.result (vec_items c.args.out.now) (vec_items c.extend_from_slice-4.new.self))
+    (append_assoc (kind ++ a) b d ∙ append_assoc kind a (b ++ d) ∙ ap (λ t. 17 ∷ t) (ap₂ (λ x y. x ++ y) c.to_be_bytes.ensures (ap₂ (λ x y. x ++ y) c.to_be_bytes-2.ensures c.to_be_bytes-3.ensures)))
+    (extended c.extend_from_slice-4.result (vec_items c.args.out.now) (vec_items c.extend_from_slice-3.new.self) (vec_items c.extend_from_slice-4.new.self) d ((kind ++ a) ++ b)
+    c.extend_from_slice-4.ensures.items
+    (c.in_ok-extend_from_slice-3.ensures.items
+    ∙ ap (λ t. t ++ b) (c.in_ok-extend_from_slice-2.ensures.items ∙ ap (λ t. t ++ a) c.in_ok-extend_from_slice.ensures.items ∙ append_assoc (vec_items c.args.out.now) kind a)
     ∙ append_assoc (vec_items c.args.out.now) (kind ++ a) b))

@@ -10,8 +10,8 @@ loop-r-init c = c.new-text.ensures.bytes
 
 pub loop-r-preserved : goal.loop-r-preserved
 loop-r-preserved c =
-    c.in-ok-push-str.ensures.bytes ∙
-    (ap₂ (λ a b. a ++ b) c.loop-r.invariant (c.as-str.ensures.value ∙ (c.in-ok-count.ensures ∙ ap (λ n. count_of n (eqb c.loop-r.r 7)) c.count.ensures.value)) ∙
+    c.in_ok-push_str.ensures.bytes ∙
+    (ap₂ (λ a b. a ++ b) c.loop-r.invariant (c.as_str.ensures.value ∙ (c.in_ok-count.ensures ∙ ap (λ n. count_of n (eqb c.loop-r.r 7)) c.count.ensures.value)) ∙
     sym (counts_more (answered c.args.sharing.now) c.args.y c.loop-r.r))
 
 pub returns : goal.returns

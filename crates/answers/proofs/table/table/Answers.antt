@@ -10,5 +10,5 @@ loop-y-init c = c.new-text.ensures.bytes
 
 pub loop-y-preserved : goal.loop-y-preserved
 loop-y-preserved c =
-    c.in-ok-push-str.ensures.bytes ∙
-    (ap₂ (λ a b. a ++ b) c.loop-y.invariant (c.as-str.ensures.value ∙ c.in-ok-counts.ensures) ∙ sym (table_more (answered c.args.sharing.now) c.loop-y.y))
+    c.in_ok-push_str.ensures.bytes ∙
+    (ap₂ (λ a b. a ++ b) c.loop-y.invariant (c.as_str.ensures.value ∙ c.in_ok-counts.ensures) ∙ sym (table_more (answered c.args.sharing.now) c.loop-y.y))

@@ -12,27 +12,27 @@ use Rattle.answers.specs.Records.{no_bytes, record_of}
 use Rattle.answers.proofs.Written.{extended_once, kept_so, yes_line, yes_record, no_record, front_of}
 use Rattle.answers.proofs.record.Answers.add.Goals as goal
 
-pub slice-bounds-extend-from-slice-end : goal.slice-bounds-extend-from-slice-end
-slice-bounds-extend-from-slice-end c =
-    let h : c.in-Written.n ≤ length c.write-witness.new.out = omega (arith, c.in-Written.ensures.value.room, c.write-witness.auto.out) in
+pub slice_bounds-extend_from_slice-end : goal.slice_bounds-extend_from_slice-end
+slice_bounds-extend_from_slice-end c =
+    let h : c.in-Written.n ≤ length c.write_witness.new.out = omega (arith, c.in-Written.ensures.value.room, c.write_witness.auto.out) in
     search rules
 
-pub returns-in-ok-extend-from-slice : goal.returns-in-ok-extend-from-slice
-returns-in-ok-extend-from-slice c =
+pub returns-in_ok-extend_from_slice-in-Written : goal.returns-in_ok-extend_from_slice-in-Written
+returns-in_ok-extend_from_slice-in-Written c =
     let s = routed c.args.routes.now in
     let q = c.args.question in
     let w = c.in-Written.ensures.value in
     let before = vec_items c.args.self.now.lines in
     record {
-      lines = kept_so c.extend-from-slice-in-Written.result before (vec_items c.extend-from-slice.new.self) (line_of (answer_to s q)) (c.in-ok-extend-from-slice.ensures.items ∙ ap (λ t. before ++ t) (c.line.ensures ∙ sym (yes_line s q w.shared)));
+      lines = kept_so c.extend_from_slice-in-Written.result before (vec_items c.extend_from_slice.new.self) (line_of (answer_to s q)) (c.in_ok-extend_from_slice-in-Written.ensures.items ∙ ap (λ t. before ++ t) (c.line.ensures ∙ sym (yes_line s q w.shared)));
       records =
-          extended_once c.extend-from-slice-in-Written.result (vec_items c.args.self.now.records) (vec_items c.extend-from-slice-in-Written.new.self) _ (record_of s q)
-          c.extend-from-slice-in-Written.ensures.items
-          (front_of (yes_bytes (exact_witness s q.holder q.right q.target)) (drop c.in-Written.n c.args.room.now) c.write-witness.new.out (c.in-Written.n - 0) (omega (arith, w.size)) w.bytes ∙ sym (yes_record s q w.shared));
+          extended_once c.extend_from_slice-in-Written.result (vec_items c.args.self.now.records) (vec_items c.extend_from_slice-in-Written.new.self) _ (record_of s q)
+          c.extend_from_slice-in-Written.ensures.items
+          (front_of (yes_bytes (exact_witness s q.holder q.right q.target)) (drop c.in-Written.n c.args.room.now) c.write_witness.new.out (c.in-Written.n - 0) (omega (arith, w.size)) w.bytes ∙ sym (yes_record s q w.shared));
     }
 
-pub returns-in-ok-extend-from-slice-2 : goal.returns-in-ok-extend-from-slice-2
-returns-in-ok-extend-from-slice-2 c =
+pub returns-in_ok-extend_from_slice-in-Never : goal.returns-in_ok-extend_from_slice-in-Never
+returns-in_ok-extend_from_slice-in-Never c =
     let s = routed c.args.routes.now in
     let q = c.args.question in
     let x = q.holder in
@@ -42,12 +42,12 @@ returns-in-ok-extend-from-slice-2 c =
     let found = said.round in
     let barrier = c.in-Never.barrier in
     record {
-      lines = kept_so c.write-sheet.result before (vec_items c.extend-from-slice-in-Never.new.self) (line_of (answer_to s q)) (c.in-ok-extend-from-slice-2.ensures.items ∙ ap (λ t. before ++ t) (c.line-in-Never.ensures ∙ sym (ap line_of unshared)));
+      lines = kept_so c.write_sheet.result before (vec_items c.extend_from_slice-in-Never.new.self) (line_of (answer_to s q)) (c.in_ok-extend_from_slice-in-Never.ensures.items ∙ ap (λ t. before ++ t) (c.line-in-Never.ensures ∙ sym (ap line_of unshared)));
       records =
-          subst (Appended c.write-sheet.result (vec_items c.args.self.now.records) (vec_items c.write-sheet.new.out))
+          subst (Appended c.write_sheet.result (vec_items c.args.self.now.records) (vec_items c.write_sheet.new.out))
           (sheet_is (holds barrier.inner) (holds barrier.out) (holds barrier.into) (certificate_of s (only x)) (fun_ext found.inner) (fun_ext found.out) (fun_ext found.into)
           ∙ sym (no_record s q unshared))
-          c.write-sheet.ensures;
+          c.write_sheet.ensures;
     }
   where
     sheet_is : (f g h : ℕ → Bool) (d : Certificate) → f ≡ d.inner → g ≡ d.out → h ≡ d.into → no_bytes (record { inner = f; out = g; into = h }) ≡ no_bytes d
