@@ -12,6 +12,6 @@ returns-in-Err c = no_book c.args.bytes.now c.in-Err.fault c.in-Err.ensures.valu
 pub returns : goal.returns
 returns c =
     let bs = c.args.bytes.now in
-    subst (λ p. MatchResult c.answer-from.result (λ a. printed c.args.records p ≡ Ok (vec_items a.lines, vec_items a.records)) (λ e. IsRefusedSo e p))
+    subst (λ p. MatchResult c.answer_from.result (λ a. printed c.args.records p ≡ Ok (vec_items a.lines, vec_items a.records)) (λ e. IsRefusedSo e p))
     (ap (posed_at (length bs) bs c.in-Ok.read.1 0) c.of-book.ensures.value ∙ book_posed bs (state c.in-Ok.read.0) c.in-Ok.read.1 c.in-Ok.ensures.value)
-    c.answer-from.ensures
+    c.answer_from.ensures

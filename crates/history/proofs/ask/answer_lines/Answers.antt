@@ -4,5 +4,5 @@ use Rattle.history.proofs.ask.answer_lines.Goals as goal
 
 pub returns : goal.returns
 returns c =
-    let records = vec_items c.in-ok-lines.field-0.records in
-    lines_said c.args.bytes.now (λ i. (c.type-inv.bytes i).fits) (vec_items c.in-ok-lines.field-0.lines) records c.in-ok-lines.ensures
+    let records = vec_items c.in_ok-lines.field-0.records in
+    lines_said c.args.bytes.now (λ i. (c.type_inv.bytes i).fits) (vec_items c.in_ok-lines.field-0.lines) records c.in_ok-lines.ensures
