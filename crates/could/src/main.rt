@@ -44,8 +44,13 @@ fn run(rt: &HostRuntime) -> anyhow::Result<()> {
     match console::read_request(rt, Writes::File)? {
         Request::Help => Ok(rt.print(HELP)?),
         Request::Run { files, output } => match files.as_slice() {
-            [first, rest @ ..] if first == "all" => print_table(rt, rest, &output),
-            [first, rest @ ..] if first == "after" => answer(rt, Asked::AfterActs, rest, &output),
+            [first, rest @ ..] if first.as_str() == "all" => print_table(rt, rest, &output),
+            [first, rest @ ..] if first.as_str() == "after" => answer(
+                rt,
+                Asked::AfterActs,
+                rest,
+                &output,
+            ),
             all => answer(rt, Asked::OfOneBook, all, &output),
         },
     }

@@ -101,7 +101,7 @@ fn records_beside_lines(rt: HostRuntime) -> Result<(), Fail> {
     let Ok(answers) = answer_records(heap, &input) else {
         return Err(Fail::new("refused"));
     };
-    assert!(rt; answers.lines.as_slice() == b"yes\nno\n");
+    assert!(rt; answers.lines.as_slice() == b"yes\nno\n".as_slice());
     assert!(rt; answers.records.len() == 10 + 97);
     assert!(rt; answers.records[0] == 16 && answers.records[10] == 17);
     Ok(())
