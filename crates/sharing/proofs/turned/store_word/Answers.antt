@@ -8,7 +8,7 @@ use Rattle.sharing.proofs.Holding.{row_fits, block_row, filled_none, filled_more
 use Rattle.sharing.proofs.turned.store_word.Goals as goal
 
 pub row_word-requires : goal.row_word-requires
-row_word-requires g c = let last = rows_apart c.loop-i.i 64 g.row.W (omega arith) in (omega (arith, c.requires.g_bound), c.requires.n_in_bounds.1.1.0)
+row_word-requires g c = let last = rows_apart c.loop-i.i 64 g.row.W (omega arith) in (omega (arith, c.requires.g_bound), omega (arith, c.requires.n_in_bounds, c.requires.g_bound))
 
 pub row_put-requires : goal.row_put-requires
 row_put-requires g c =
