@@ -3,7 +3,7 @@
 
 use anyhow::anyhow;
 use checker::check;
-use console::{Request, Writes};
+use console::Request;
 
 const HELP: &str = "\
 check tells whether an answer about a book of rights is right, whoever wrote it.
@@ -23,9 +23,9 @@ fn main(rt: HostRuntime) -> anyhow::Result<()> {
 }
 
 fn run(rt: &HostRuntime) -> anyhow::Result<()> {
-    match console::read_request(rt, Writes::Nothing)? {
+    match console::read_request(rt)? {
         Request::Help => Ok(rt.print(HELP)?),
-        Request::Run { files, .. } => print_verdict(rt, &files),
+        Request::Run { files } => print_verdict(rt, &files),
     }
 }
 

@@ -3,7 +3,7 @@
 
 use anyhow::anyhow;
 use codec::{ReplayError, replay};
-use console::{Request, Writes};
+use console::Request;
 
 const HELP: &str = "\
 book prints a book of rights after a row of acts, or tells the first act that may not be done.
@@ -22,9 +22,9 @@ fn main(rt: HostRuntime) -> anyhow::Result<()> {
 }
 
 fn run(rt: &HostRuntime) -> anyhow::Result<()> {
-    match console::read_request(rt, Writes::Nothing)? {
+    match console::read_request(rt)? {
         Request::Help => Ok(rt.print(HELP)?),
-        Request::Run { files, .. } => print_after(rt, &files),
+        Request::Run { files } => print_after(rt, &files),
     }
 }
 

@@ -6,25 +6,32 @@ use std::fs::File;
 use std::io::Read;
 use std::{env, fs, io};
 
-// Whether a program writes a file beside what it prints: `-o FILE` then names it.
-#[derive(Clone, Copy, PartialEq, Eq)]
-pub enum Writes {
-    Nothing,
-    File,
-}
-
 // What the command line asks for.
 #[derive(Drop)]
 pub enum Request {
     Help,
-    Run {
-        files: Vec<String>,
-        output: Option<String>,
-    },
+    Run { files: Vec<String> },
+}
+
+// Whether a program writes a file beside what it prints: `-o FILE` then names it.
+#[derive(Clone, Copy, PartialEq, Eq)]
+enum Writes {
+    Nothing,
+    File,
 }
 
 // `-h` or `--help` anywhere asks for help; what else begins with `-` is no option that there is; the rest are files.
-pub fn read_request(rt: &HostRuntime, writes: Writes) -> anyhow::Result<Request> {
+pub fn read_request(rt: &HostRuntime) -> anyhow::Result<Request> {
+    let (request, _) = read(rt, Writes::Nothing)?;
+    Ok(request)
+}
+
+// So for a program that writes a file beside what it prints: with the name of that file, if `-o` gives one.
+pub fn read_writing_request(rt: &HostRuntime) -> anyhow::Result<(Request, Option<String>)> {
+    read(rt, Writes::File)
+}
+
+fn read(rt: &HostRuntime, writes: Writes) -> anyhow::Result<(Request, Option<String>)> {
     let mut files = Vec::new(rt.alloc());
     let mut output = None;
     let mut names_output = false;
@@ -33,7 +40,7 @@ pub fn read_request(rt: &HostRuntime, writes: Writes) -> anyhow::Result<Request>
             names_output = false;
             output = Some(arg);
         } else if arg.as_str() == "-h" || arg.as_str() == "--help" {
-            return Ok(Request::Help);
+            return Ok((Request::Help, None));
         } else if arg.as_str() == "-o" && writes == Writes::File {
             names_output = true;
         } else if arg.starts_with("-") {
@@ -45,7 +52,7 @@ pub fn read_request(rt: &HostRuntime, writes: Writes) -> anyhow::Result<Request>
     if names_output {
         return Err(anyhow!("-o wants the name of a file; --help says how to use this program"));
     }
-    Ok(Request::Run { files, output })
+    Ok((Request::Run { files }, output))
 }
 
 // Room for most inputs, so that they aren't moved as they grow. Memory that isn't written to costs nothing.

@@ -5,7 +5,7 @@
 
 use answers::{AskError, sharing_table};
 use anyhow::anyhow;
-use console::{Request, Writes};
+use console::Request;
 
 const HELP: &str = "\
 could tells whether somebody could ever come to have a right, by any acts of any people.
@@ -41,9 +41,10 @@ fn main(rt: HostRuntime) -> anyhow::Result<()> {
 }
 
 fn run(rt: &HostRuntime) -> anyhow::Result<()> {
-    match console::read_request(rt, Writes::File)? {
+    let (request, output) = console::read_writing_request(rt)?;
+    match request {
         Request::Help => Ok(rt.print(HELP)?),
-        Request::Run { files, output } => match files.as_slice() {
+        Request::Run { files } => match files.as_slice() {
             [first, rest @ ..] if first.as_str() == "all" => print_table(rt, rest, &output),
             [first, rest @ ..] if first.as_str() == "after" => answer(
                 rt,

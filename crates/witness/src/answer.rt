@@ -65,7 +65,7 @@ fn write_acts(
         return Ok((0, 0));
     }
     let routes = Routes::of(graph);
-    let ends = Ends::exact(&routes, x, r, y);
+    let ends = Ends::of(&routes, x, r, y);
     let mut plan = Plan::of(graph);
     plan.carry(&routes, ends, x, r, y, free)?;
     Ok((plan.used, plan.acts))
@@ -127,7 +127,7 @@ impl Routes<'_> {
         if self.graph.has(x, r, y) {
             return write_none(out);
         }
-        match Ends::of(self, x, r, y) {
+        match Ends::chosen(self, x, r, y) {
             Ok(ends) => Outcome::Written(self.write_yes(ends, x, r, y, out)),
             Err(barrier) => Outcome::Never(barrier),
         }

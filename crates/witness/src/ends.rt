@@ -3,7 +3,7 @@ ghost use Rattle.std.specs.Prelude.{◌≡◌, ℕ};
 ghost use Rattle.bits.specs.Sets.{holds};
 ghost use Rattle.graph.specs.Graphs.{state};
 ghost use Rattle.model.specs.Exact.{first_for, holder_for, last_for};
-ghost use Rattle.witness.specs.Ends.{Chosen};
+ghost use Rattle.witness.specs.Ends.{Chosen, Round};
 ghost use Rattle.witness.specs.Of.{routed};
 
 use crate::choose::lowest_of;
@@ -37,46 +37,14 @@ fn holding(graph: &Graph, r: Right, y: Vertex) -> VertexSet
 }
 
 impl Ends {
-    // If x can't get the right, the barrier that shows it.
-    pub fn of(routes: &Routes, x: Vertex, r: Right, y: Vertex) -> Result<Ends, Barrier>
-        ensures cases { Chosen (routed routes.now) x r y result }
-    {
-        let size = routes.graph.size();
-        let barrier = routes.links.barrier(x);
-        let reached = holding(routes.graph, r, y).intersection(&barrier.out);
-        let Some(holder) = reached.lowest() else {
-            return Err(barrier);
-        };
-        let last = lowest_of(
-            &routes.paths.terminal(holder).intersection(&barrier.inner),
-            size,
-        );
-        let first = lowest_of(
-            &routes
-                .paths
-                .initial(x)
-                .intersection(&routes.links.island(last)),
-            size,
-        );
-        Ok(Ends {
-            holder,
-            last,
-            first,
-        })
-    }
-
-    // So also where x can't get the right: the number of vertices then stands for a vertex that there isn't.
-    pub fn exact(routes: &Routes, x: Vertex, r: Right, y: Vertex) -> Ends
-        ensures holder { result.holder ≡ holder_for (routed routes.now) x r y }
-        ensures last { result.last ≡ last_for (routed routes.now) x result.holder }
+    // Those of a right that goes over this holder; the barrier is that round x.
+    fn over(routes: &Routes, x: Vertex, holder: Vertex, barrier: &Barrier) -> Ends
+        requires { Round (routed routes.now) x barrier.now }
+        ensures holder { result.holder ≡ holder }
+        ensures last { result.last ≡ last_for (routed routes.now) x holder }
         ensures first { result.first ≡ first_for (routed routes.now) x result.last }
     {
         let size = routes.graph.size();
-        let barrier = routes.links.barrier(x);
-        let holder = lowest_of(
-            &holding(routes.graph, r, y).intersection(&barrier.out),
-            size,
-        );
         let last = lowest_of(
             &routes.paths.terminal(holder).intersection(&barrier.inner),
             size,
@@ -93,5 +61,31 @@ impl Ends {
             last,
             first,
         }
+    }
+
+    // If x can't get the right, the barrier that shows it.
+    pub fn chosen(routes: &Routes, x: Vertex, r: Right, y: Vertex) -> Result<Ends, Barrier>
+        ensures cases { Chosen (routed routes.now) x r y result }
+    {
+        let barrier = routes.links.barrier(x);
+        let reached = holding(routes.graph, r, y).intersection(&barrier.out);
+        let Some(holder) = reached.lowest() else {
+            return Err(barrier);
+        };
+        Ok(Ends::over(routes, x, holder, &barrier))
+    }
+
+    // So also where x can't get the right: the number of vertices then stands for a vertex that there isn't.
+    pub fn of(routes: &Routes, x: Vertex, r: Right, y: Vertex) -> Ends
+        ensures holder { result.holder ≡ holder_for (routed routes.now) x r y }
+        ensures last { result.last ≡ last_for (routed routes.now) x result.holder }
+        ensures first { result.first ≡ first_for (routed routes.now) x result.last }
+    {
+        let barrier = routes.links.barrier(x);
+        let holder = lowest_of(
+            &holding(routes.graph, r, y).intersection(&barrier.out),
+            routes.graph.size(),
+        );
+        Ends::over(routes, x, holder, &barrier)
     }
 }

@@ -21,8 +21,8 @@ pub returns-in_err-carry : goal.returns-in_err-carry
 returns-in_err-carry c =
     let a = c.args in
     let b = state a.graph.now in
-    let e = c.exact-ends.result in
-    let f = c.exact-ends.ensures in
+    let e = c.of-ends.result in
+    let f = c.of-ends.ensures in
     let s = routed c.of-routes.result in
     let rules =
     ap (λ (v : Work). v.rules) (work_is b s a.x a.r a.y e.holder e.last e.first c.of-routes.ensures.value f.holder f.last f.first)
@@ -35,8 +35,8 @@ pub returns : goal.returns
 returns c =
     let a = c.args in
     let b = state a.graph.now in
-    let e = c.exact-ends.result in
-    let f = c.exact-ends.ensures in
+    let e = c.of-ends.result in
+    let f = c.of-ends.ensures in
     let s = routed c.of-routes.result in
     let rules =
     ap (λ (v : Work). v.rules) (work_is b s a.x a.r a.y e.holder e.last e.first c.of-routes.ensures.value f.holder f.last f.first)
