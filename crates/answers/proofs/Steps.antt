@@ -1,5 +1,5 @@
 -- One turn of the loop that reads questions, and the whole input.
-use Rattle.std.proofs.Common.{◌≡◌, ℕ, zero, suc, ◌+◌, ◌-◌, ◌<◌, ◌≤◌, Bool, cond, ltb, List, [], ◌∷◌, ◌++◌, length, Ok, Err, Result, sym, refl, ap, ◌∙◌, append_assoc, append-nil, arith}
+use Rattle.std.proofs.Common.{◌≡◌, ℕ, zero, suc, ◌+◌, ◌-◌, ◌<◌, ◌≤◌, cond, ltb, List, [], ◌∷◌, ◌++◌, length, Ok, Err, Result, sym, refl, ap, ◌∙◌, append_assoc, append-nil, arith}
 use Rattle.std.proofs.lemmas.Bool.{lt-ltb, le-ltb, cond-false}
 use Rattle.model.specs.State.{State}
 use Rattle.codec.specs.declared.fault.Fault.{Fault}
@@ -10,7 +10,7 @@ use Rattle.codec.specs.Questions.{question_at, narrow_book_at}
 use Rattle.answers.specs.declared.error.AskError.{AskError}
 use Rattle.answers.specs.declared.error.AskError.TheVariants.{Input, NoMemory}
 use Rattle.answers.specs.AskErrors.{IsRefusedSo}
-use Rattle.answers.specs.Asked.{Asked, asked, book_alone, questions_at}
+use Rattle.answers.specs.Asked.{asked, book_alone, questions_at}
 
 -- What is left to read, behind what was read.
 abbrev pub behind : List Question → Result (List Question) Fault → Result (List Question) Fault

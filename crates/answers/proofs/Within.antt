@@ -1,5 +1,5 @@
 -- The questions that were read name only vertices that are there, so the promise holds of each.
-use Rattle.std.proofs.Common.{◌≡◌, ℕ, zero, suc, ◌<◌, Bool, true, false, cond, not, eqb, ltb, ◌⊎◌, List, [], ◌∷◌, length, Ok, Err, sym, refl, ap, ◌∙◌, subst, inl, inr}
+use Rattle.std.proofs.Common.{◌≡◌, ℕ, zero, suc, ◌<◌, not, eqb, ltb, List, [], ◌∷◌, length, Ok, ap, ◌∙◌, subst, inl, inr}
 use Rattle.model.specs.State.{State, WellFormed}
 use Rattle.model.proofs.ExactLaws.{exact_is_witness}
 use Rattle.model.proofs.Laws.{promise_kept}

@@ -1,5 +1,5 @@
 -- What is answered to an input of questions, beside what the input says. Only where memory runs out is it something else.
-use Rattle.std.specs.Prelude.{◌≡◌, ℕ, List, Err, Result}
+use Rattle.std.specs.Prelude.{◌≡◌, Err, Result}
 use Rattle.codec.specs.declared.fault.Fault.{Fault}
 use Rattle.answers.specs.declared.error.AskError.{AskError}
 use Rattle.answers.specs.declared.error.AskError.TheVariants.{Input, NoMemory}

@@ -1,5 +1,5 @@
 -- What is written for each question: of a yes the exact witness, of a no its certificate.
-use Rattle.std.specs.Prelude.{◌≡◌, ℕ, Bool, false, cond, T, List, [], ◌∷◌, ◌++◌, Ok}
+use Rattle.std.specs.Prelude.{◌≡◌, ℕ, false, cond, T, List, [], ◌∷◌, ◌++◌, Ok}
 use Rattle.bits.specs.Sets.{set_bytes}
 use Rattle.model.specs.Bounded.{only}
 use Rattle.model.specs.Certificates.{Certificate, is_right, certificate_of}

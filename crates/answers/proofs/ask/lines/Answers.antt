@@ -1,7 +1,7 @@
-use Rattle.std.proofs.Common.{◌≡◌, ◌+◌, [], ◌∷◌, ◌++◌, get_or, take, vec_items, sym, refl, ap, ◌∙◌, ap₂, arith}
+use Rattle.std.proofs.Common.{◌++◌, get_or, take, sym, ap, ◌∙◌, ap₂}
 use Rattle.std.proofs.lemmas.List.{take_more, take_all}
 use Rattle.sharing.specs.Of.{answered}
-use Rattle.answers.specs.Lines.{line_of, lines_of, answer_to}
+use Rattle.answers.specs.Lines.{line_of, lines_of}
 use Rattle.answers.proofs.Written.{lines_more}
 use Rattle.answers.proofs.ask.lines.Goals as goal
 

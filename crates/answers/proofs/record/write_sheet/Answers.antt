@@ -1,4 +1,4 @@
-use Rattle.std.proofs.Common.{◌≡◌, ℕ, List, [], ◌∷◌, ◌++◌, vec_items, sym, ap, ◌∙◌, subst, ap₂, append_assoc}
+use Rattle.std.proofs.Common.{ℕ, List, [], ◌∷◌, ◌++◌, vec_items, ap, ◌∙◌, subst, ap₂, append_assoc}
 use Rattle.codec.specs.Writing.{Appended}
 use Rattle.answers.proofs.Written.{extended}
 use Rattle.answers.proofs.record.write_sheet.Goals as goal

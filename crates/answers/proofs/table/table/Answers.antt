@@ -1,6 +1,6 @@
-use Rattle.std.proofs.Common.{◌≡◌, ◌++◌, string_bytes, sym, refl, ap, ◌∙◌, ap₂}
+use Rattle.std.proofs.Common.{◌++◌, sym, ◌∙◌, ap₂}
 use Rattle.sharing.specs.Of.{answered}
-use Rattle.answers.specs.Lines.{counts_of, table_of}
+use Rattle.answers.specs.Lines.{table_of}
 use Rattle.answers.proofs.Written.{table_more}
 use Rattle.answers.proofs.table.table.Goals as goal
 

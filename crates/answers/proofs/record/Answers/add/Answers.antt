@@ -1,4 +1,4 @@
-use Rattle.std.proofs.Common.{◌≡◌, ℕ, ◌-◌, ◌≤◌, Bool, List, [], ◌++◌, length, drop, vec_items, sym, refl, ap, ◌∙◌, subst, ap₂, arith, rules}
+use Rattle.std.proofs.Common.{◌≡◌, ℕ, ◌-◌, ◌≤◌, Bool, ◌++◌, length, drop, vec_items, sym, ap, ◌∙◌, subst, arith, rules}
 use mathlib.Core.Path.{fun_ext}
 use Rattle.codec.specs.Writing.{Appended}
 use Rattle.model.specs.Bounded.{only}

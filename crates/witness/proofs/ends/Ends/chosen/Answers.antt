@@ -3,10 +3,8 @@ use mathlib.Core.Path.{fun_ext}
 use Rattle.bits.specs.Sets.{holds}
 use Rattle.graph.proofs.Sound.{well_formed-law}
 use Rattle.model.specs.Bounded.{only}
-use Rattle.model.specs.Certificates.{inner_of, into_of, out_of}
+use Rattle.model.specs.Certificates.{out_of}
 use Rattle.model.specs.Exact.{lowest, last_for}
-use Rattle.model.specs.Spans.{connected}
-use Rattle.model.specs.State.{is_subject}
 use Rattle.model.proofs.Tests.{from_true, from_false, is_false, parts, some_below-law, some_from}
 use Rattle.witness.specs.Of.{routed}
 use Rattle.witness.proofs.Choosing.{get_is, holder_is}
