@@ -11,7 +11,7 @@ use graph::Graph;
 use model::{Right, Vertex};
 
 // Could `holder` come to have this right to `target`?
-#[derive(Clone, Copy)]
+#[derive(Clone, Copy, PartialEq, Eq, Debug)]
 pub struct Question {
     pub holder: Vertex,
     pub right: Right,
