@@ -1,7 +1,6 @@
 // check: reads a book, a question and an answer, and prints `right`, or the first fault.
 #![tactic(auto)]
 
-use anyhow::anyhow;
 use checker::check;
 use console::Request;
 
@@ -25,7 +24,7 @@ fn main(rt: HostRuntime) -> anyhow::Result<()> {
 fn run(rt: &HostRuntime) -> anyhow::Result<()> {
     match console::read_request(rt)? {
         Request::Help => Ok(rt.print(HELP)?),
-        Request::Run { files } => print_verdict(rt, &files),
+        Request::Run { files, .. } => print_verdict(rt, &files),
     }
 }
 
@@ -33,9 +32,6 @@ fn print_verdict(rt: &HostRuntime, files: &[String]) -> anyhow::Result<()> {
     let input = console::read_input(rt, files)?;
     match check(&input) {
         Ok(()) => Ok(rt.println("right")?),
-        Err(fault) => {
-            println!(rt; "{} {}", fault.number(), fault.place())?;
-            Err(anyhow!("{fault}"))
-        }
+        Err(fault) => console::tell(rt, fault.number(), fault.place(), fault),
     }
 }

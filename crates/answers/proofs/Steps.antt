@@ -4,11 +4,11 @@ use Rattle.std.proofs.lemmas.Bool.{lt-ltb, le-ltb, cond-false}
 use Rattle.model.specs.State.{State}
 use Rattle.codec.specs.declared.fault.Fault.{Fault}
 use Rattle.codec.specs.declared.fault.Fault.TheVariants.{UnknownKind}
-use Rattle.codec.specs.declared.question.Question.{Question}
+use Rattle.model.specs.declared.Question.{Question}
 use Rattle.codec.specs.Reading.{Read, onward}
 use Rattle.codec.specs.Questions.{question_at, narrow_book_at}
-use Rattle.answers.specs.declared.error.AskError.{AskError}
-use Rattle.answers.specs.declared.error.AskError.TheVariants.{Input, NoMemory}
+use Rattle.codec.specs.declared.error.InputError.{InputError}
+use Rattle.codec.specs.declared.error.InputError.TheVariants.{Input, NoMemory}
 use Rattle.answers.specs.AskErrors.{IsRefusedSo}
 use Rattle.answers.specs.Asked.{asked, book_alone, questions_at}
 
@@ -69,6 +69,6 @@ module _ (bs : List ℕ) where
   book_alone-law s at e = ap (λ r. onward r λ b. cond (ltb b.1 (length bs)) (Err (UnknownKind b.1)) (Ok b.0)) (sym e)
 
 -- A refusal of the questions is one of the input.
-pub refused_asked : (bs : List ℕ) (s : State) (at : ℕ) → ◌≡◌ {A = Read State} (Ok (s, at)) (narrow_book_at bs) → (e : AskError) → IsRefusedSo e (questions_at (length bs) bs s.size at) → IsRefusedSo e (asked bs)
+pub refused_asked : (bs : List ℕ) (s : State) (at : ℕ) → ◌≡◌ {A = Read State} (Ok (s, at)) (narrow_book_at bs) → (e : InputError) → IsRefusedSo e (questions_at (length bs) bs s.size at) → IsRefusedSo e (asked bs)
 refused_asked bs s at g (Input f) h = book_asked bs s at g (Err f) (sym h)
 refused_asked bs s at g NoMemory h = tt

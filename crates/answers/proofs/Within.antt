@@ -6,20 +6,14 @@ use Rattle.model.proofs.Laws.{promise_kept}
 use Rattle.model.proofs.Least.{certificate_decides}
 use Rattle.model.proofs.Tests.{from_true}
 use Rattle.codec.specs.declared.fault.Fault.TheVariants.{UnknownKind}
-use Rattle.codec.specs.declared.question.Question.{Question}
+use Rattle.model.specs.declared.Question.{Question}
 use Rattle.codec.specs.Reading.{◌then◌, onward, below_at}
 use Rattle.codec.specs.Questions.{question_at}
 use Rattle.codec.proofs.Inverted.{byte_ok, below_ok, cond_ways, onward_ok, ok_same, never_ok}
 use Rattle.answers.specs.Asked.{questions_at}
+use Rattle.answers.specs.Inside.{Inside, AllInside}
 use Rattle.answers.specs.Promised.{AllDecided}
 use Rattle.answers.specs.Records.{Each, DecidedSo, Shown}
-
-pub record Inside (size : ℕ) (q : Question) : Type 0 where
-  pub holder : q.holder < size
-  pub target : q.target < size
-
-abbrev pub AllInside : ℕ → List Question → Type 0
-AllInside size = Each (Inside size)
 
 pub question_inside : (bs : List ℕ) (size at : ℕ) (q : Question) (next : ℕ) → question_at bs size at ≡ Ok (q, next) → Inside size q
 question_inside bs size at q next e =

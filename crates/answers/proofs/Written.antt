@@ -9,7 +9,7 @@ use Rattle.model.proofs.Tests.{is_true}
 use Rattle.codec.specs.Writing.{Appended}
 use Rattle.witness.specs.Answers.{yes_bytes}
 use Rattle.model.specs.State.{State}
-use Rattle.codec.specs.declared.question.Question.{Question}
+use Rattle.model.specs.declared.Question.{Question}
 use Rattle.answers.specs.Records.{no_bytes, record_of, records_of}
 use Rattle.answers.specs.Lines.{line_of, answer_to, lines_of, sharers, count_of, counts_of, table_of}
 

@@ -3,3 +3,4 @@ pub mod Lines
 pub mod Promised
 pub mod Records
 pub mod AskErrors
+pub mod Inside

@@ -3,7 +3,7 @@ use Rattle.std.specs.Prelude.{ℕ, zero, suc, Bool, true, false, List, [], ◌�
 use Rattle.model.specs.Bounded.{count_below}
 use Rattle.model.specs.Sharing.{can_share}
 use Rattle.model.specs.State.{State}
-use Rattle.codec.specs.declared.question.Question.{Question}
+use Rattle.model.specs.declared.Question.{Question}
 
 abbrev pub line_of : Bool → List ℕ
 line_of true = 121 ∷ 101 ∷ 115 ∷ 10 ∷ []

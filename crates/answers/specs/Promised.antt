@@ -2,7 +2,7 @@
 use Rattle.std.specs.Prelude.{◌≡◌, ℕ, List, [], ◌∷◌, Ok}
 use Rattle.model.specs.State.{State}
 use Rattle.model.specs.Promise.{Decided}
-use Rattle.codec.specs.declared.question.Question.{Question}
+use Rattle.model.specs.declared.Question.{Question}
 use Rattle.answers.specs.Asked.{Asked, asked}
 use Rattle.answers.specs.Lines.{answer_to, lines_of}
 

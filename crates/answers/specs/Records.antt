@@ -7,7 +7,7 @@ use Rattle.model.specs.Exact.{exact_witness}
 use Rattle.model.specs.Exactly.{Exactly}
 use Rattle.model.specs.Promise.{Decided}
 use Rattle.model.specs.State.{State}
-use Rattle.codec.specs.declared.question.Question.{Question}
+use Rattle.model.specs.declared.Question.{Question}
 use Rattle.witness.specs.Answers.{yes_bytes}
 use Rattle.answers.specs.Asked.{Asked, asked}
 use Rattle.answers.specs.Lines.{answer_to, lines_of}

@@ -1,45 +1,26 @@
 // Yes or no to each question.
 ghost use Rattle.std.specs.Prelude.{◌≡◌, ℕ, ◌+◌, ◌<◌, ◌≤◌, List, length, IfOk, Ok, MatchResult};
 ghost use Rattle.answers.specs.AskErrors.{IsRefusedSo};
-ghost use Rattle.answers.specs.Asked.{asked, questions_at};
+ghost use Rattle.answers.specs.Asked.{asked};
 ghost use Rattle.answers.specs.Lines.{lines_of, answer_to, line_of};
 ghost use Rattle.answers.specs.Promised.{Promised};
 ghost use Rattle.codec.specs.Writing.{Appended};
 ghost use Rattle.graph.specs.Graphs.{state};
 ghost use Rattle.sharing.specs.Of.{answered};
 
-use crate::error::AskError;
-use codec::{Fault, Question, read_narrow_book, read_question};
+use crate::read::Asked;
+use codec::InputError;
 use graph::Graph;
+use model::Question;
 use sharing::Sharing;
 use std::alloc::{AllocError, Global};
 
 // A line, yes or no, for each question of the input.
-pub fn answer_lines(heap: Global, bytes: &[u8]) -> Result<Vec<u8>, AskError>
+pub fn answer_lines(heap: Global, bytes: &[u8]) -> Result<Vec<u8>, InputError>
     ensures { MatchResult result (λ v. Promised bytes.now v.items) (λ e. IsRefusedSo e (asked bytes.now)) }
 {
-    let (graph, at) = read_narrow_book(bytes)?;
-    let questions = read_questions(heap, bytes, graph.size(), at)?;
-    Ok(write_lines(heap, &graph, &questions)?)
-}
-
-// Questions to the end of the input.
-pub(crate) fn read_questions(
-    heap: Global,
-    bytes: &[u8],
-    size: u8,
-    start: usize,
-) -> Result<Vec<Question>, AskError>
-    ensures { MatchResult result (λ v. questions_at (length bytes.now) bytes.now size start ≡ Ok v.items) (λ e. IsRefusedSo e (questions_at (length bytes.now) bytes.now size start)) }
-{
-    let mut questions = Vec::new(heap);
-    let mut at = start;
-    while at < bytes.len() {
-        let (question, next) = read_question(bytes, size, at)?;
-        questions.push(question)?;
-        at = next;
-    }
-    Ok(questions)
+    let asked = Asked::read(heap, bytes)?;
+    Ok(write_lines(heap, &asked.about, &asked.questions)?)
 }
 
 // The lines, from all answers worked out at once.
@@ -58,11 +39,12 @@ fn lines(heap: Global, sharing: &Sharing, questions: &[Question]) -> Result<Vec<
 {
     let mut out = Vec::new(heap);
     for q in questions {
-        out.extend_from_slice(line(sharing.can_share(q.holder, q.right, q.target)))?;
+        out.extend_from_slice(line(sharing.can_share(*q)))?;
     }
     Ok(out)
 }
 
+// The line of an answer.
 pub fn line(yes: bool) -> &'static [u8]
     ensures { result.now ≡ line_of yes }
 {

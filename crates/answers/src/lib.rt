@@ -2,11 +2,11 @@
 #![tactic(auto)]
 
 mod ask;
-mod error;
+mod read;
 mod record;
 mod table;
 
-pub use ask::answer_lines;
-pub use error::AskError;
+pub use ask::{answer_lines, line};
+pub use codec::InputError;
 pub use record::{Answers, answer_records};
 pub use table::sharing_table;

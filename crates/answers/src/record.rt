@@ -10,15 +10,14 @@ ghost use Rattle.graph.specs.Graphs.{state};
 ghost use Rattle.witness.specs.Answers.{longest_answer_len};
 ghost use Rattle.witness.specs.Of.{routed};
 
-use crate::ask::{line, read_questions};
-use crate::error::AskError;
-use codec::{Question, read_narrow_book};
+use crate::ask::line;
+use crate::read::Asked;
+use codec::{InputError, Kind};
 use graph::Graph;
+use model::Question;
 use spans::Barrier;
 use std::alloc::{AllocError, Global};
-use witness::{Outcome, Routes, longest_answer};
-
-const NO: u8 = 17;
+use witness::{Routes, Unwritten, longest_answer};
 
 // What is printed, and what is written beside it.
 #[derive(Drop)]
@@ -30,12 +29,11 @@ pub struct Answers {
 }
 
 // Yes or no to each question of the input, with what shows it.
-pub fn answer_records(heap: Global, bytes: &[u8]) -> Result<Answers, AskError>
+pub fn answer_records(heap: Global, bytes: &[u8]) -> Result<Answers, InputError>
     ensures { MatchResult result (λ a. PromisedWith bytes.now a.lines.items a.records.items) (λ e. IsRefusedSo e (asked bytes.now)) }
 {
-    let (graph, at) = read_narrow_book(bytes)?;
-    let questions = read_questions(heap, bytes, graph.size(), at)?;
-    Ok(write_answers(heap, &graph, &questions)?)
+    let asked = Asked::read(heap, bytes)?;
+    Ok(write_answers(heap, &asked.about, &asked.questions)?)
 }
 
 // One room serves all plans: the longest that there may be.
@@ -80,16 +78,16 @@ impl Answers {
         ensures lines { Appended result self.old.lines.items self.new.lines.items (line_of (answer_to (routed routes.now) question)) }
         ensures records { Appended result self.old.records.items self.new.records.items (record_of (routed routes.now) question) }
     {
-        match routes.write_witness(question.holder, question.right, question.target, room) {
-            Outcome::Written(n) => {
+        match routes.write_witness(question, room) {
+            Ok(n) => {
                 self.lines.extend_from_slice(line(true))?;
-                self.records.extend_from_slice(&room[0..n])
+                self.records.extend_from_slice(&room[..n])
             }
-            Outcome::Never(barrier) => {
+            Err(Unwritten::Never(barrier)) => {
                 self.lines.extend_from_slice(line(false))?;
                 write_sheet(&barrier, &mut self.records)
             }
-            Outcome::NoRoom => unreachable(),
+            Err(Unwritten::NoRoom) => unreachable(),
         }
     }
 }
@@ -98,7 +96,7 @@ impl Answers {
 fn write_sheet(barrier: &Barrier, out: &mut Vec<u8>) -> Result<(), AllocError>
     ensures { Appended result out.old.items out.new.items (no_bytes (record { inner = holds barrier.now.inner; out = holds barrier.now.out; into = holds barrier.now.into })) }
 {
-    out.extend_from_slice(&[NO])?;
+    out.extend_from_slice(&[u8::from(Kind::No)])?;
     out.extend_from_slice(&barrier.inner.to_be_bytes())?;
     out.extend_from_slice(&barrier.into.to_be_bytes())?;
     out.extend_from_slice(&barrier.out.to_be_bytes())

@@ -1,5 +1,5 @@
 -- The laws of sets that are written as bytes.
-use Rattle.std.proofs.Common.{◌≡◌, ℕ, zero, suc, ◌+◌, ◌-◌, ◌*◌, ◌/◌, ◌%◌, ◌^◌, ◌<◌, ◌≤◌, Bool, true, false, cond, ◌&&◌, ◌||◌, eqb, ltb, List, ◌∷◌, length, get_or, drop, sym, refl, ap, ◌∙◌, ap₂, inl, inr, add-zero, add_comm, suc-add, pow-suc, zero-add, one-add, arith}
+use Rattle.std.proofs.Common.{◌≡◌, ℕ, zero, suc, ◌+◌, ◌-◌, ◌*◌, ◌/◌, ◌%◌, ◌^◌, ◌<◌, Bool, true, false, cond, ◌&&◌, ◌||◌, eqb, ltb, List, ◌∷◌, length, get_or, drop, sym, refl, ap, ◌∙◌, ap₂, inl, inr, add-zero, add_comm, suc-add, pow-suc, zero-add, one-add, arith}
 use lib.Bits.{bit_or, or_shifted}
 use Rattle.std.proofs.lemmas.Nat.{mod-pow-add}
 use Rattle.std.proofs.lemmas.List.{ext_get_or}
@@ -55,10 +55,6 @@ bit_bits (suc n) f i =
       | inr d ↦ grind (arith, nat_tests)
     ]
 
-pub byte_lt : (f : ℕ → Bool) (j : ℕ) → byte_of f j < 256
-unfolding byte_of
-byte_lt f j = bits_lt 8 (λ i. f (8 * j + i))
-
 pub bit_byte : (f : ℕ → Bool) (j i : ℕ) → bit (byte_of f j) i ≡ (ltb i 8 && f (8 * j + i))
 unfolding byte_of
 bit_byte f j i = bit_bits 8 (λ i. f (8 * j + i)) i
@@ -77,9 +73,6 @@ unfolding set_bytes
 get_or-set-bytes zero f p h = absurd (omega arith)
 get_or-set-bytes (suc w) f zero h = ap (byte_of f) (omega arith)
 get_or-set-bytes (suc w) f (suc p) h = get_or-set-bytes w f p (omega arith) ∙ ap (byte_of f) (omega arith)
-
-pub set_bytes_lt : (w : ℕ) (f : ℕ → Bool) (p : ℕ) → p < w → get_or (set_bytes w f) p 0 < 256
-set_bytes_lt w f p h = omega (arith, get_or-set-bytes w f p h, byte_lt f (w - 1 - p))
 
 pub set_bytes_same : (w : ℕ) (f g : ℕ → Bool) → ((k : ℕ) → k < 8 * w → f k ≡ g k) → set_bytes w f ≡ set_bytes w g
 unfolding set_bytes
@@ -126,11 +119,6 @@ unfolding byte_of
 byte_in_bytes bs p h small =
     bits_same 8 (λ i. in_bytes bs (8 * (length bs - 1 - p) + i)) (bit (get_or bs p 0)) (λ i l. in_bytes_at bs p i h l)
     ∙ bits_of 8 (get_or bs p 0) ∙ omega arith
-
-pub in_bytes_past : (bs : List ℕ) (k : ℕ) → 8 * length bs ≤ k → in_bytes bs k ≡ false
-unfolding in_bytes
-in_bytes_past bs k h =
-    ap (λ b. b && bit (get_or bs (length bs - 1 - k / 8) 0) (k % 8)) (le-ltb (k / 8) (length bs) (omega arith))
 
 -- And writing what bytes name gives them back.
 pub set_in_bytes : (w : ℕ) (bs : List ℕ) → length bs ≡ w → ((p : ℕ) → p < length bs → get_or bs p 0 < 256) → set_bytes w (in_bytes bs) ≡ bs

@@ -1,5 +1,5 @@
 -- The laws of tables of bits.
-use Rattle.std.proofs.Common.{◌≡◌, ℕ, ◌+◌, ◌-◌, ◌*◌, ◌/◌, ◌%◌, ◌<◌, ◌≤◌, Bool, false, cond, not, ◌&&◌, ◌||◌, eqb, ltb, leb, ◌⊎◌, List, length, get_or, take, drop, set, sym, ap, ◌∙◌, ap₂, inl, inr, mul-le-mul_right, suc-mul, arith}
+use Rattle.std.proofs.Common.{◌≡◌, ℕ, ◌+◌, ◌-◌, ◌*◌, ◌/◌, ◌%◌, ◌<◌, ◌≤◌, Bool, false, cond, ◌&&◌, ◌||◌, eqb, ltb, leb, ◌⊎◌, List, length, get_or, take, drop, set, sym, ap, ◌∙◌, ap₂, inl, inr, mul-le-mul_right, suc-mul, arith}
 use lib.Bits.{bit_or}
 use Rattle.std.proofs.lemmas.List.{get_or-take, get_or-drop, length-take-le, length-drop}
 use Rattle.std.proofs.lemmas.Bool.{cases_eq, cases_lt, cases_order, lt-ltb, le-ltb}
@@ -7,12 +7,20 @@ use Rattle.std.proofs.lemmas.Bool.Decides.{nat_tests}
 use Rattle.model.specs.Bit.{bit}
 use Rattle.bits.specs.Sets.{member, Same}
 use Rattle.bits.specs.Rows.{cell}
-use Rattle.bits.proofs.Bit.{bit_or-law, bit_zero}
+use Rattle.bits.proofs.Bit.{bit_or-law}
 use Rattle.bits.proofs.Member.{member_past, member_set, member_at, member_word}
 
 pub cell_past : (t : List ℕ) (w x k : ℕ) → 64 * w ≤ k → cell t w x k ≡ false
 unfolding cell
 cell_past t w x k h = ap (λ b. b && member t (64 * (x * w) + k)) (le-ltb k (64 * w) h)
+
+-- A row has nothing past its words.
+pub cell_room : (t : List ℕ) (w x k v : ℕ) → w ≤ v → (ltb k (64 * v) && cell t w x k) ≡ cell t w x k
+cell_room t w x k v h =
+    elim (cases_lt k (64 * w)) [
+      | inl l ↦ ap (λ b. b && cell t w x k) (lt-ltb k (64 * v) (omega arith))
+      | inr l ↦ let past = cell_past t w x k l in grind (arith, nat_tests)
+    ]
 
 -- A row ends before a later one begins.
 pub rows_apart : (a b w : ℕ) → a < b → a * w + w ≤ b * w
@@ -138,36 +146,6 @@ added_all was w into from t i e inv x k =
           ]
     ]
 
--- The words of row x below i are 0.
-abbrev pub Cleared : List ℕ → ℕ → ℕ → List ℕ → ℕ → Type 0
-Cleared was w x t i = (p : ℕ) → member t p ≡ (not (leb (64 * (x * w)) p && ltb p (64 * (x * w + i))) && member was p)
-
-pub cleared_none : (was : List ℕ) (w x : ℕ) → Cleared was w x was 0
-cleared_none was w x p = grind (arith, nat_tests)
-
-pub cleared_more : (was : List ℕ) (w x : ℕ) (t : List ℕ) (i : ℕ) → i < w → x * w + w ≤ length t → Cleared was w x t i → Cleared was w x (set t (x * w + i) 0) (i + 1)
-cleared_more was w x t i h l inv p =
-    let written = member_set t (x * w + i) 0 p (omega arith) in
-    let before = inv p in
-    let none = bit_zero (p % 64) in
-    elim (cases_eq (p / 64) (x * w + i)) [
-      | inl e ↦ grind (arith, nat_tests)
-      | inr d ↦ grind (arith, nat_tests)
-    ]
-
-pub cleared_all : (was : List ℕ) (w x : ℕ) (t : List ℕ) (i : ℕ) → i ≡ w → Cleared was w x t i → (y k : ℕ) → cell t w y k ≡ (not (eqb y x) && cell was w y k)
-unfolding cell
-cleared_all was w x t i e inv y k =
-    let all = inv (64 * (y * w) + k) in
-    elim (rows_order y x w) [
-      | inl f ↦ let same : y * w ≡ x * w = ap (λ z. z * w) f in grind (arith, nat_tests)
-      | inr o ↦
-          elim o [
-            | inl f ↦ grind (arith, nat_tests)
-            | inr f ↦ grind (arith, nat_tests)
-          ]
-    ]
-
 -- Of row x, the words below i have what the words of a set have too.
 abbrev pub Gained : List ℕ → ℕ → ℕ → List ℕ → List ℕ → ℕ → Type 0
 Gained was w x ws t i = (p : ℕ) → member t p ≡ (member was p || ((leb (64 * (x * w)) p && ltb p (64 * (x * w + i))) && member ws (p - 64 * (x * w))))
@@ -205,32 +183,4 @@ gained_all was w x ws t i f e s inv y k =
             | inl g ↦ grind (arith, nat_tests)
             | inr g ↦ grind (arith, nat_tests)
           ]
-    ]
-
--- Of row x, the words below i are those of a set.
-abbrev pub Written : List ℕ → ℕ → ℕ → List ℕ → List ℕ → ℕ → Type 0
-Written was w x ws t i = (y k : ℕ) → cell t w y k ≡ cond (eqb y x && ltb k (64 * i)) (member ws k) (cell was w y k)
-
-pub written_none : (was : List ℕ) (w x : ℕ) (ws : List ℕ) → Written was w x ws was 0
-written_none was w x ws y k = grind (arith, nat_tests)
-
-pub written_more : (was : List ℕ) (w x : ℕ) (ws t u : List ℕ) (i : ℕ) → ((y k : ℕ) → cell u w y k ≡ cond (eqb y x && eqb (k / 64) i) (bit (get_or ws i 0) (k % 64)) (cell t w y k)) → Written was w x ws t i → Written was w x ws u (i + 1)
-written_more was w x ws t u i step inv y k =
-    let now = step y k in
-    let before = inv y k in
-    elim (cases_eq (k / 64) i) [
-      | inl e ↦ let here = member_at ws i k e in grind (arith, nat_tests)
-      | inr d ↦ grind (arith, nat_tests)
-    ]
-
-pub written_all : (was : List ℕ) (w x : ℕ) (ws t : List ℕ) (i : ℕ) → i ≡ w → length ws ≡ w → Written was w x ws t i → (y k : ℕ) → cell t w y k ≡ cond (eqb y x) (member ws k) (cell was w y k)
-written_all was w x ws t i e l inv y k =
-    let all = inv y k in
-    elim (cases_lt k (64 * w)) [
-      | inl h ↦ grind (arith, nat_tests)
-      | inr h ↦
-          let none = member_past ws k (omega arith) in
-          let old = cell_past was w y k h in
-          let new = cell_past t w y k h in
-          grind (arith, nat_tests)
     ]

@@ -1,15 +1,14 @@
 -- Eight bytes to a word: how the bytes of a set lie in its words.
-use Rattle.std.proofs.Common.{◌≡◌, ℕ, ◌+◌, ◌-◌, ◌*◌, ◌/◌, ◌%◌, ◌^◌, ◌<◌, ◌≤◌, Bool, false, ◌&&◌, ◌||◌, eqb, leb, List, length, get_or, set, replicate, sym, ap, ◌∙◌, ap₂, inl, inr, arith}
+use Rattle.std.proofs.Common.{◌≡◌, ℕ, ◌+◌, ◌-◌, ◌*◌, ◌/◌, ◌%◌, ◌^◌, ◌<◌, ◌≤◌, false, ◌&&◌, ◌||◌, eqb, leb, List, length, get_or, set, replicate, sym, ap, ◌∙◌, ap₂, inl, inr, arith}
 use lib.Bits.{bit_and, bit_or, and_mask}
 use Rattle.std.proofs.lemmas.Nat.{shl_whole}
-use Rattle.std.proofs.lemmas.List.{ext_get_or, length-set, get_or-set_same, get_or-set_other}
 use Rattle.std.proofs.lemmas.Bool.{cases_eq, cases_lt}
 use Rattle.std.proofs.lemmas.Bool.Decides.{nat_tests}
 use Rattle.model.specs.Bit.{bit}
-use Rattle.bits.specs.Sets.{Same, member, byte_of, set_bytes, in_bytes}
+use Rattle.bits.specs.Sets.{member, byte_of, in_bytes}
 use Rattle.bits.proofs.Bit.{bit_or-law, bit_shl, bit_shr, bit_past}
 use Rattle.bits.proofs.Member.{member_set, member_at, member_zeros}
-use Rattle.bits.proofs.Bytes.{bits_of, bits_same, length_set_bytes, get_or-set-bytes, set_bytes_same}
+use Rattle.bits.proofs.Bytes.{bits_of, bits_same}
 
 pub byte_of_words : (ws : List ℕ) (j : ℕ) → bit_and (get_or ws (j / 8) 0 / 2 ^ (8 * (j % 8))) 255 ≡ byte_of (member ws) j
 unfolding byte_of member
@@ -82,25 +81,3 @@ read_more bs ws vs i h step inv k =
 
 pub read_all : (bs ws : List ℕ) (i : ℕ) → length bs ≤ i → Read bs ws i → (k : ℕ) → member ws k ≡ in_bytes bs k
 read_all bs ws i h inv k = let all = inv k in grind (arith, nat_tests)
-
--- The first i of n bytes are those of the set f.
-abbrev pub Written : ℕ → (ℕ → Bool) → List ℕ → ℕ → Type 0
-Written n f bs i = (length bs ≡ n) × ((p : ℕ) → p < i → get_or bs p 0 ≡ byte_of f (n - 1 - p))
-
-pub written_more : (n : ℕ) (f : ℕ → Bool) (bs : List ℕ) (i b : ℕ) → i < n → b ≡ byte_of f (n - 1 - i) → Written n f bs i → Written n f (set bs i b) (i + 1)
-written_more n f bs i b h e inv = (
-  length-set bs i b ∙ inv.0,
-  λ p l.
-      elim (cases_eq p i) [
-        | inl s ↦ ap (λ q. get_or (set bs i b) q 0) s ∙ get_or-set_same bs i b 0 (omega arith) ∙ e ∙ ap (λ q. byte_of f (n - 1 - q)) (sym s)
-        | inr d ↦ get_or-set_other bs i p b 0 d ∙ inv.1 p (omega arith)
-      ],
-)
-
-pub written_all : (n : ℕ) (f g : ℕ → Bool) (bs : List ℕ) (i : ℕ) → n ≤ i → Same g f → Written n f bs i → bs ≡ set_bytes n g
-written_all n f g bs i h s inv =
-    ext_get_or 0 bs (set_bytes n f) (inv.0 ∙ sym (length_set_bytes n f))
-    (λ p l.
-    let q : p < n = omega (arith, inv.0) in
-    inv.1 p (omega arith) ∙ sym (get_or-set-bytes n f p q))
-    ∙ set_bytes_same n f g (λ k l. sym (s k))

@@ -119,3 +119,5 @@ mask_2 = record { some = omega arith; few = omega arith; bits = mask_law 2 0x333
 pub mask_1 : Mask 1 0x5555_5555_5555_5555
 unfolding mask_bit all_below bit
 mask_1 = record { some = omega arith; few = omega arith; bits = mask_law 1 0x5555_5555_5555_5555 tt; whole = λ k h e. omega arith }
+
+pub ruleset masks = (mask_32, mask_16, mask_8, mask_4, mask_2, mask_1)

@@ -1,4 +1,4 @@
 pub mod Sets
 pub mod Rows
-pub mod Among
 pub mod Blocks
+pub mod Members

@@ -1,7 +1,7 @@
--- Sets of numbers: as words of 64 bits, as a VertexSet, and as bytes.
+-- Sets of numbers: as words of 64 bits, as a BitSet, and as bytes.
 use Rattle.std.specs.Prelude.{◌≡◌, ℕ, zero, suc, ◌+◌, ◌-◌, ◌*◌, ◌/◌, ◌%◌, ◌^◌, Bool, cond, ◌&&◌, List, [], ◌∷◌, length, nat_lt, slice_index}
 use Rattle.model.specs.Bit.{bit}
-use Rattle.bits.specs.declared.set.VertexSet.{VertexSet}
+use Rattle.bits.specs.declared.set.BitSet.{BitSet}
 
 -- Is k in the set that these words write, 64 numbers to a word, the lowest first?
 unfoldable pub member : List ℕ → ℕ → Bool
@@ -11,9 +11,16 @@ member ws k = bit (slice_index ws (k / 64)) (k % 64)
 abbrev pub Same : (ℕ → Bool) → (ℕ → Bool) → Type 0
 Same f g = (k : ℕ) → f k ≡ g k
 
+-- Is k in the set?
+unfoldable pub among : (w : ℕ) → BitSet w → ℕ → Bool
+among w s k = nat_lt k (64 * w) && member s.words k
+
+abbrev pub VertexSet : Type 0
+VertexSet = BitSet 4
+
 -- Is the vertex k in the set?
-unfoldable pub holds : VertexSet → ℕ → Bool
-holds s k = nat_lt k 256 && member s.words k
+abbrev pub holds : VertexSet → ℕ → Bool
+holds = among 4
 
 -- What a list of sets has past its end: a set with no member.
 abbrev pub none : VertexSet

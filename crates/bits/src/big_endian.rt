@@ -35,9 +35,5 @@ fn byte_at(words: &[u64], j: usize) -> u8
 pub fn write(words: &[u64; 4]) -> [u8; 32]
     ensures { (f : ℕ → Bool) → Same f (member words.now) → result ≡ set_bytes 32 f }
 {
-    let mut bytes = [0; 32];
-    for i in 0..32 {
-        bytes[i] = byte_at(words, 31 - i);
-    }
-    bytes
+    std::array::from_fn(|i| byte_at(words, 31 - i))
 }

@@ -50,6 +50,7 @@ fn swap<const W: usize, const J: usize>(block: &mut [u64], n: usize, mask: u64)
 }
 
 // Row r of each 64 columns becomes column r of them.
+#[tactic(auto, using(crate::proofs::Transposed::masks))]
 pub fn transpose<const W: usize>(block: &mut [u64])
     requires { 64 * W ≤ length block.old }
     ensures { (r k : ℕ) → r < 64 → k < 64 * W → cell block.new W r k ≡ cell block.old W (k % 64) (64 * (k / 64) + r) }

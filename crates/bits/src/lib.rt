@@ -3,18 +3,18 @@
 
 mod big_endian;
 mod block;
-mod row;
+mod members;
 mod rows;
 mod set;
 mod words;
 
 pub use block::transpose;
-pub use row::RowSet;
+pub use members::Members;
 pub use rows::{
     row_add, row_clear, row_contains, row_count, row_insert, row_is_subset, row_put, row_set,
     row_union, row_word,
 };
-pub use set::VertexSet;
+pub use set::{BitSet, VertexSet};
 pub use words::pop_bit;
 
 #[cfg(test)]
@@ -33,6 +33,17 @@ mod tests {
         assert!(rt; set.lowest() == Some(3));
         set.remove(3);
         assert!(rt; set.lowest() == Some(200));
+    }
+
+    #[test]
+    fn walk(rt: HostRuntime) {
+        let mut set = VertexSet::empty();
+        set.insert(200);
+        set.insert(3);
+        let mut members = set.iter();
+        assert!(rt; members.next() == Some(3));
+        assert!(rt; members.next() == Some(200));
+        assert!(rt; members.next() == None);
     }
 
     // Two bytes: the first names 8 to 15, the second 0 to 7.

@@ -2,11 +2,11 @@
 
 ghost use Rattle.std.specs.Prelude.{◌≡◌, ℕ, ◌+◌, ◌*◌, ◌/◌, ◌%◌, ◌^◌, ◌<◌, ◌≤◌, not, ◌&&◌, ◌||◌, length, if◌then◌else◌, ◌==◌, nat_eq, nat_lt};
 ghost use Rattle.bits.specs.Rows.{cell};
-ghost use Rattle.bits.specs.Sets.{holds, member};
+ghost use Rattle.bits.specs.Sets.{among, holds, member};
 ghost use Rattle.model.specs.Bit.{bit};
 ghost use Rattle.model.specs.Bounded.{all_below, count_below, implies};
 
-use crate::set::VertexSet;
+use crate::set::{BitSet, VertexSet};
 use crate::words;
 
 pub fn row(rows: &[u64], w: usize, x: usize) -> &[u64]
@@ -78,8 +78,16 @@ pub fn row_clear(rows: &mut [u64], w: usize, x: usize)
     requires { x * w + w ≤ length rows.old }
     ensures { (y k : ℕ) → cell rows.new w y k ≡ (not (y == x) && cell rows.old w y k) }
 {
+    rows[x * w..x * w + w].fill(0);
+}
+
+// Adds to row x what the first w words have.
+fn add_words(rows: &mut [u64], w: usize, x: usize, words: &[u64])
+    requires { (x * w + w ≤ length rows.old) × (w ≤ length words.now) }
+    ensures { (y k : ℕ) → cell rows.new w y k ≡ (cell rows.old w y k || (y == x && (nat_lt k (64 * w) && member words.now k))) }
+{
     for i in 0..w {
-        rows[x * w + i] = 0;
+        rows[x * w + i] |= words[i];
     }
 }
 
@@ -88,7 +96,7 @@ pub fn row_set(rows: &[u64], w: usize, x: usize) -> VertexSet
     requires { (x * w + w ≤ length rows.now) × (w ≤ 4) }
     ensures { (k : ℕ) → holds result k ≡ cell rows.now w x k }
 {
-    VertexSet::of(words::padded(row(rows, w, x)))
+    BitSet::of(words::resized(row(rows, w, x)))
 }
 
 // Adds to row x what the set has; what is past the end of a row is left out.
@@ -96,8 +104,40 @@ pub fn row_add(rows: &mut [u64], w: usize, x: usize, set: &VertexSet)
     requires { (x * w + w ≤ length rows.old) × (w ≤ 4) }
     ensures { (y k : ℕ) → cell rows.new w y k ≡ (cell rows.old w y k || (y == x && (nat_lt k (64 * w) && holds set.now k))) }
 {
-    let words = set.words();
-    for i in 0..w {
-        rows[x * w + i] |= words[i];
+    add_words(rows, w, x, &set.words());
+}
+
+// Sets that are as wide as a row.
+impl<const W: usize> BitSet<W> {
+    // What row x has.
+    pub fn at(rows: &[u64], x: usize) -> BitSet<W>
+        requires { x * W + W ≤ length rows.now }
+        ensures { (k : ℕ) → among W result k ≡ cell rows.now W x k }
+    {
+        BitSet::of(words::resized(row(rows, W, x)))
+    }
+
+    // The numbers from 64 * at on.
+    pub fn word(&self, at: usize) -> u64
+        requires { at < W }
+        ensures { (j : ℕ) → j < 64 → bit result j ≡ among W self.now (64 * at + j) }
+    {
+        self.words()[at]
+    }
+
+    // Row x is this set from now on.
+    pub fn write(&self, rows: &mut [u64], x: usize)
+        requires { x * W + W ≤ length rows.old }
+        ensures { (y k : ℕ) → cell rows.new W y k ≡ (if nat_eq y x then among W self.now k else cell rows.old W y k) }
+    {
+        rows[x * W..x * W + W].copy_from_slice(&self.words());
+    }
+
+    // Adds this set to row x.
+    pub fn add_to(&self, rows: &mut [u64], x: usize)
+        requires { x * W + W ≤ length rows.old }
+        ensures { (y k : ℕ) → cell rows.new W y k ≡ (cell rows.old W y k || (y == x && among W self.now k)) }
+    {
+        add_words(rows, W, x, &self.words());
     }
 }

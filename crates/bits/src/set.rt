@@ -1,47 +1,127 @@
-// A set of vertices.
+// Sets of numbers: a bit for each, 64 to a word.
 
-ghost use Rattle.std.specs.Prelude.{◌≡◌, ℕ, ◌<◌, ◌≤◌, true, false, not, ◌&&◌, ◌||◌, length, MatchOption, ◌==◌, nat_lt};
-ghost use Rattle.bits.specs.Sets.{holds, in_bytes, member, set_bytes};
+ghost use Rattle.std.specs.Prelude.{◌≡◌, ℕ, ◌*◌, ◌<◌, ◌≤◌, true, false, not, ◌&&◌, ◌||◌, length, MatchOption, ◌==◌, nat_lt};
+ghost use Rattle.bits.specs.Members.{TakesLowest};
+ghost use Rattle.bits.specs.Sets.{among, holds, in_bytes, member, set_bytes};
 ghost use Rattle.model.specs.Bounded.{all_below, count_below, implies};
 
 use crate::{big_endian, words};
 
-// A vertex is a byte, so four words have a bit for each.
+// A set of numbers below 64 * W.
 #[derive(Clone, Copy, PartialEq, Eq, Debug)]
-pub struct VertexSet {
-    words: [u64; 4],
+pub struct BitSet<const W: usize> {
+    words: [u64; W],
 }
 
-impl VertexSet {
-    pub(crate) fn of(words: [u64; 4]) -> VertexSet
-        ensures { (k : ℕ) → holds result k ≡ member words k }
+// A vertex is a byte, so four words have a bit for each.
+pub type VertexSet = BitSet<4>;
+
+impl<const W: usize> BitSet<W> {
+    pub(crate) fn of(words: [u64; W]) -> BitSet<W>
+        ensures { (k : ℕ) → among W result k ≡ member words.entry k }
     {
-        VertexSet { words }
+        BitSet { words }
     }
 
-    pub(crate) fn words(&self) -> [u64; 4]
-        ensures { (k : ℕ) → member result k ≡ holds self.now k }
+    pub(crate) fn words(&self) -> [u64; W]
+        ensures { (k : ℕ) → member result k ≡ among W self.now k }
     {
         self.words
     }
 
-    pub fn empty() -> VertexSet
-        ensures { (k : ℕ) → holds result k ≡ false }
+    pub fn empty() -> BitSet<W>
+        ensures { (k : ℕ) → among W result k ≡ false }
     {
-        VertexSet::of([0; 4])
+        BitSet::of([0; W])
     }
 
-    // The vertices that have a number below n.
-    pub fn below(n: u8) -> VertexSet
-        ensures { (k : ℕ) → holds result k ≡ nat_lt k n }
+    // The numbers below n, as far as there is room.
+    pub fn below(n: usize) -> BitSet<W>
+        ensures { (k : ℕ) → among W result k ≡ (nat_lt k (64 * W) && nat_lt k n) }
     {
-        let mut s = VertexSet::empty();
-        for v in 0..n {
-            s.insert(v);
-        }
-        s
+        BitSet::of(std::array::from_fn(|i| words::below_word(n, i)))
     }
 
+    // v alone, as far as there is room.
+    fn only(v: usize) -> BitSet<W>
+        ensures { (k : ℕ) → among W result k ≡ (nat_lt k (64 * W) && k == v) }
+    {
+        BitSet::of(std::array::from_fn(|i| words::only_word(v, i)))
+    }
+
+    // The same numbers in V words, as far as there is room.
+    pub fn resized<const V: usize>(&self) -> BitSet<V>
+        ensures { (k : ℕ) → among V result k ≡ (nat_lt k (64 * V) && among W self.now k) }
+    {
+        BitSet::of(words::resized(&self.words()))
+    }
+
+    // v alone, if it is there.
+    pub fn pick(&self, v: usize) -> BitSet<W>
+        ensures { (k : ℕ) → among W result k ≡ (k == v && among W self.now k) }
+    {
+        self.intersection(&BitSet::only(v))
+    }
+
+    pub fn add(&mut self, other: &BitSet<W>)
+        ensures { (k : ℕ) → among W self.new k ≡ (among W self.old k || among W other.now k) }
+    {
+        *self = self.union(other);
+    }
+
+    pub fn union(&self, other: &BitSet<W>) -> BitSet<W>
+        ensures { (k : ℕ) → among W result k ≡ (among W self.now k || among W other.now k) }
+    {
+        BitSet::of(words::joined(&self.words(), &other.words(), |a, b| a | b))
+    }
+
+    pub fn intersection(&self, other: &BitSet<W>) -> BitSet<W>
+        ensures { (k : ℕ) → among W result k ≡ (among W self.now k && among W other.now k) }
+    {
+        BitSet::of(words::joined(&self.words(), &other.words(), |a, b| a & b))
+    }
+
+    pub fn difference(&self, other: &BitSet<W>) -> BitSet<W>
+        ensures { (k : ℕ) → among W result k ≡ (among W self.now k && not (among W other.now k)) }
+    {
+        BitSet::of(words::joined(&self.words(), &other.words(), |a, b| a & !b))
+    }
+
+    pub fn is_subset(&self, other: &BitSet<W>) -> bool
+        ensures { result ≡ all_below (64 * W) (λ k. implies (among W self.now k) (among W other.now k)) }
+    {
+        words::is_subset(&self.words(), &other.words())
+    }
+
+    pub fn is_empty(&self) -> bool
+        ensures { result ≡ all_below (64 * W) (λ k. not (among W self.now k)) }
+    {
+        words::is_empty(&self.words())
+    }
+
+    // The lowest number.
+    pub fn lowest(&self) -> Option<u8>
+        requires { W ≤ 4 }
+        ensures { MatchOption result
+            ((k : ℕ) → among W self.now k ≡ false)
+            (λ v. (among W self.now v ≡ true) × ((k : ℕ) → k < v → among W self.now k ≡ false)) }
+    {
+        words::lowest(&self.words()).map(|v| v as u8)
+    }
+
+    // Takes the lowest number out.
+    pub fn pop(&mut self) -> Option<u8>
+        requires { W ≤ 4 }
+        ensures { TakesLowest (among W self.old) result (among W self.new) }
+    {
+        let v = self.lowest()?;
+        let one = BitSet::only(usize::from(v));
+        *self = self.difference(&one);
+        Some(v)
+    }
+}
+
+impl VertexSet {
     pub fn contains(&self, v: u8) -> bool
         ensures { result ≡ holds self.now v }
     {
@@ -60,58 +140,10 @@ impl VertexSet {
         words::cut(&mut self.words, usize::from(v) / 64, usize::from(v) % 64);
     }
 
-    pub fn union(&self, other: &VertexSet) -> VertexSet
-        ensures { (k : ℕ) → holds result k ≡ (holds self.now k || holds other.now k) }
-    {
-        let mut words = self.words();
-        words::unite(&mut words, &other.words());
-        VertexSet::of(words)
-    }
-
-    pub fn intersection(&self, other: &VertexSet) -> VertexSet
-        ensures { (k : ℕ) → holds result k ≡ (holds self.now k && holds other.now k) }
-    {
-        let mut words = self.words();
-        words::intersect(&mut words, &other.words());
-        VertexSet::of(words)
-    }
-
-    pub fn difference(&self, other: &VertexSet) -> VertexSet
-        ensures { (k : ℕ) → holds result k ≡ (holds self.now k && not (holds other.now k)) }
-    {
-        let mut words = self.words();
-        words::subtract(&mut words, &other.words());
-        VertexSet::of(words)
-    }
-
-    pub fn is_subset(&self, other: &VertexSet) -> bool
-        ensures { result ≡ all_below 256 (λ k. implies (holds self.now k) (holds other.now k)) }
-    {
-        words::is_subset(&self.words(), &other.words())
-    }
-
-    pub fn is_empty(&self) -> bool
-        ensures { result ≡ all_below 256 (λ k. not (holds self.now k)) }
-    {
-        words::is_empty(&self.words())
-    }
-
     pub fn count(&self) -> usize
         ensures { result ≡ count_below 256 (holds self.now) }
     {
         words::count(&self.words())
-    }
-
-    // The vertex with the lowest number.
-    pub fn lowest(&self) -> Option<u8>
-        ensures { MatchOption result
-            ((k : ℕ) → holds self.now k ≡ false)
-            (λ v. (holds self.now v ≡ true) × ((k : ℕ) → k < v → holds self.now k ≡ false)) }
-    {
-        match words::lowest(&self.words()) {
-            Some(v) => Some(v as u8),
-            None => None,
-        }
     }
 
     // The set that the bytes name, the highest first. More than 32 name no set of vertices.
@@ -123,7 +155,7 @@ impl VertexSet {
         if bytes.len() > 32 {
             return None;
         }
-        Some(VertexSet::of(big_endian::read(bytes)))
+        Some(BitSet::of(big_endian::read(bytes)))
     }
 
     // The set as bytes, the highest first. The last 16 write what it has below 128.

@@ -1,6 +1,6 @@
 // Sets of numbers as slices of 64-bit words: number k is bit k % 64 of word k / 64.
 
-ghost use Rattle.std.specs.Prelude.{◌≡◌, ℕ, ◌+◌, ◌*◌, ◌^◌, ◌<◌, ◌≤◌, Bool, true, false, not, ◌&&◌, ◌||◌, length, MatchOption, ◌==◌, nat_lt};
+ghost use Rattle.std.specs.Prelude.{◌≡◌, ℕ, ◌+◌, ◌*◌, ◌^◌, ◌<◌, ◌≤◌, Bool, true, false, not, ◌&&◌, ◌||◌, length, MatchOption, ◌==◌, nat_lt, slice_index};
 ghost use Rattle.bits.specs.Sets.{Same, member};
 ghost use Rattle.model.specs.Bit.{bit};
 ghost use Rattle.model.specs.Bounded.{all_below, count_below, implies};
@@ -35,11 +35,19 @@ pub fn pop_bit(word: &mut u64) -> Option<u32>
     Some(i)
 }
 
-// The word whose n lowest bits are set, or all where n is 64 or more.
-pub fn first_bits(n: usize) -> u64
-    ensures { (k : ℕ) → k < 64 → bit result k ≡ nat_lt k n }
+// Word i of the numbers below n.
+pub fn below_word(n: usize, i: usize) -> u64
+    ensures { (j : ℕ) → j < 64 → bit result j ≡ nat_lt (64 * i + j) n }
 {
-    if n < 64 { (1 << n) - 1 } else { u64::MAX }
+    let left = n.saturating_sub(i.saturating_mul(64));
+    if left < 64 { (1 << left) - 1 } else { u64::MAX }
+}
+
+// Word i of the set that has v alone.
+pub fn only_word(v: usize, i: usize) -> u64
+    ensures { (j : ℕ) → j < 64 → bit result j ≡ (64 * i + j == v) }
+{
+    if v / 64 == i { 1 << (v % 64) } else { 0 }
 }
 
 // Takes the number 64 * at + i out.
@@ -50,34 +58,21 @@ pub fn cut(words: &mut [u64], at: usize, i: usize)
     words[at] &= !(1 << i);
 }
 
-// Adds what `other` has.
-pub fn unite(words: &mut [u64], other: &[u64])
-    requires { length words.old ≡ length other.now }
-    ensures { (k : ℕ) → member words.new k ≡ (member words.old k || member other.now k) }
+// The words of two sets of one width, joined one by one.
+pub fn joined<const W: usize, F: Fn(u64, u64) -> u64>(
+    a: &[u64; W],
+    b: &[u64; W],
+    join: F,
+) -> [u64; W]
+    requires { F.IsAlwaysCallable join }
+    ensures { (i : ℕ) → i < W → F.post join (slice_index a.now i) (slice_index b.now i) (slice_index result i) }
 {
-    for (i, w) in other.iter().enumerate() {
-        words[i] |= *w;
-    }
-}
-
-// Keeps what `other` has too.
-pub fn intersect(words: &mut [u64], other: &[u64])
-    requires { length words.old ≡ length other.now }
-    ensures { (k : ℕ) → member words.new k ≡ (member words.old k && member other.now k) }
-{
-    for (i, w) in other.iter().enumerate() {
-        words[i] &= *w;
-    }
-}
-
-// Keeps what `other` has not.
-pub fn subtract(words: &mut [u64], other: &[u64])
-    requires { length words.old ≡ length other.now }
-    ensures { (k : ℕ) → member words.new k ≡ (member words.old k && not (member other.now k)) }
-{
-    for (i, w) in other.iter().enumerate() {
-        words[i] &= !*w;
-    }
+    std::array::from_fn(
+        |i: usize| -> u64
+            requires { (i < W) × F.IsAlwaysCallable join }
+            ensures { F.post join (slice_index a.entry.now i) (slice_index b.entry.now i) result }
+        { join(a[i], b[i]) },
+    )
 }
 
 // Has b each bit that a has?
@@ -91,34 +86,20 @@ pub fn is_subset(words: &[u64], other: &[u64]) -> bool
     requires { length words.now ≡ length other.now }
     ensures { (n : ℕ) (f : ℕ → Bool) → n ≡ 64 * length words.now → Same f (λ k. implies (member words.now k) (member other.now k)) → result ≡ all_below n f }
 {
-    for (i, w) in words.iter().enumerate() {
-        if !is_within(*w, other[i]) {
-            return false;
-        }
-    }
-    true
+    words.iter().zip(other).all(|(a, b)| is_within(*a, *b))
 }
 
 pub fn is_empty(words: &[u64]) -> bool
     ensures { (n : ℕ) (f : ℕ → Bool) → n ≡ 64 * length words.now → Same f (λ k. not (member words.now k)) → result ≡ all_below n f }
 {
-    for w in words {
-        if *w != 0 {
-            return false;
-        }
-    }
-    true
+    words.iter().all(|w| *w == 0)
 }
 
 pub fn count(words: &[u64]) -> usize
     requires { 64 * length words.now < 2 ^ 64 }
     ensures { (n : ℕ) (f : ℕ → Bool) → n ≡ 64 * length words.now → Same f (member words.now) → result ≡ count_below n f }
 {
-    let mut n = 0;
-    for w in words {
-        n += w.count_ones() as usize;
-    }
-    n
+    words.iter().map(|w| w.count_ones() as usize).sum()
 }
 
 // The lowest number that is there.
@@ -136,26 +117,12 @@ pub fn lowest(words: &[u64]) -> Option<usize>
     None
 }
 
-// The numbers that are in the first W words.
-pub fn first<const W: usize>(words: &[u64]) -> [u64; W]
-    requires { W ≤ length words.now }
+// The same set in W words, as far as there is room.
+pub fn resized<const W: usize>(words: &[u64]) -> [u64; W]
     ensures { (k : ℕ) → member result k ≡ (nat_lt k (64 * W) && member words.now k) }
 {
     let mut all = [0; W];
-    for i in 0..W {
-        all[i] = words[i];
-    }
-    all
-}
-
-// The same set in four words.
-pub fn padded(words: &[u64]) -> [u64; 4]
-    requires { length words.now ≤ 4 }
-    ensures { (k : ℕ) → member result k ≡ member words.now k }
-{
-    let mut all = [0; 4];
-    for (i, w) in words.iter().enumerate() {
-        all[i] = *w;
-    }
+    let n = W.min(words.len());
+    all[..n].copy_from_slice(&words[..n]);
     all
 }

@@ -2,7 +2,7 @@
 #![tactic(auto)]
 
 use anyhow::anyhow;
-use codec::{ReplayError, replay};
+use codec::{InputError, replay};
 use console::Request;
 
 const HELP: &str = "\
@@ -24,7 +24,7 @@ fn main(rt: HostRuntime) -> anyhow::Result<()> {
 fn run(rt: &HostRuntime) -> anyhow::Result<()> {
     match console::read_request(rt)? {
         Request::Help => Ok(rt.print(HELP)?),
-        Request::Run { files } => print_after(rt, &files),
+        Request::Run { files, .. } => print_after(rt, &files),
     }
 }
 
@@ -32,10 +32,7 @@ fn print_after(rt: &HostRuntime, files: &[String]) -> anyhow::Result<()> {
     let input = console::read_input(rt, files)?;
     match replay(rt.alloc(), &input) {
         Ok(book) => Ok(rt.stdout().write_all(&book)?),
-        Err(ReplayError::Input(fault)) => {
-            println!(rt; "{} {}", fault.number(), fault.place())?;
-            Err(anyhow!("{fault}"))
-        }
-        Err(ReplayError::NoMemory) => Err(anyhow!("there is not enough memory")),
+        Err(InputError::Input(fault)) => console::tell(rt, fault.number(), fault.place(), fault),
+        Err(InputError::NoMemory) => Err(anyhow!("there is not enough memory")),
     }
 }

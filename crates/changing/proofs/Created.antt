@@ -68,11 +68,7 @@ module _ (s : State) (wf : WellFormed s) (who : ℕ) (acting : Bool) (rights : �
       ∙ ap₂ (λ a b. a || b) (grown_paths s wf acting x y) (ap₂ (λ a b. a && b) (grown_paths s wf acting x who ∙ old) (grown_paths s wf acting s.size y))
     where
       old : ((eqb x s.size && eqb who s.size) || path_from s x who) ≡ path_from s x who
-      old = ap (λ b. (eqb x s.size && b) || path_from s x who) (ne_eqb who s.size (λ e. omega arith)) ∙ law (eqb x s.size) (path_from s x who)
-        where
-          law : (a b : Bool) → ((a && false) || b) ≡ b
-          law true b = refl
-          law false b = refl
+      old = let other = ne_eqb who s.size (λ e. omega arith) in grind (arith, nat_tests)
 
   untaken : (T (bit rights take_right) → ⊥) → (x y : ℕ) → path_from (created who acting rights s) x y ≡ begun x y
   untaken f x y =
@@ -92,23 +88,9 @@ module _ (s : State) (wf : WellFormed s) (who : ℕ) (acting : Bool) (rights : �
       (begun x y || ((eqb x s.size || (bit rights take_right && path_from s x who)) && begun s.size y))
   created_paths x y =
       elim (decide (bit rights take_right)) [
-        | inl h ↦ taken h x y ∙ law (path_from s x who) (is_true _ h)
-        | inr f ↦ untaken f x y ∙ none (is_false _ f)
+        | inl h ↦ let paths = taken h x y in let takes = is_true _ h in let same = self in grind (arith, nat_tests)
+        | inr f ↦ let paths = untaken f x y in let takes = is_false _ f in let same = self in grind (arith, nat_tests)
       ]
     where
       self : eqb x s.size ≡ true → begun s.size y ≡ begun x y
       self e = ap (λ k. begun k y) (sym (eqb→eq x s.size (from_true _ e)))
-
-      more : (a p b c w : Bool) → w ≡ true → (a ≡ true → c ≡ b) → (b || (p && c)) ≡ (b || ((a || (w && p)) && c))
-      more true p b c w e f = let g = f refl in grind (arith, nat_tests)
-      more false p b c w e f = grind (arith, nat_tests)
-
-      fewer : (a p b c w : Bool) → w ≡ false → (a ≡ true → c ≡ b) → b ≡ (b || ((a || (w && p)) && c))
-      fewer true p b c w e f = let g = f refl in grind (arith, nat_tests)
-      fewer false p b c w e f = grind (arith, nat_tests)
-
-      law : (p : Bool) → bit rights take_right ≡ true → (begun x y || (p && begun s.size y)) ≡ (begun x y || ((eqb x s.size || (bit rights take_right && p)) && begun s.size y))
-      law p e = more (eqb x s.size) p (begun x y) (begun s.size y) (bit rights take_right) e self
-
-      none : bit rights take_right ≡ false → begun x y ≡ (begun x y || ((eqb x s.size || (bit rights take_right && path_from s x who)) && begun s.size y))
-      none e = fewer (eqb x s.size) (path_from s x who) (begun x y) (begun s.size y) (bit rights take_right) e self

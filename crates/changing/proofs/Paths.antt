@@ -23,17 +23,10 @@ pub same_takes : (s t : State) → s.size ≡ t.size → ((p q : ℕ) → can_ta
 unfolding path_from take_path
 same_takes s t e f x y = ap₂ (λ n g. ltb x n && within n n g x y) e (fun_ext λ p. fun_ext λ q. f p q)
 
--- What a row begins as, from the set of whom its vertex has take to: nothing of that is past the row's end.
-pub begun_step :
-    (s : State) (to : ℕ → Bool) (v m : ℕ) → v < s.size → ((y : ℕ) → to y ≡ can_take s v y) → ((y : ℕ) → T (can_take s v y) → y < m) →
-    (y : ℕ) → step_from s v y ≡ (eqb y v || (ltb y m && to y))
+-- What a row begins as, from the set of whom its vertex has take to.
+pub begun_step : (s : State) (to : ℕ → Bool) (v : ℕ) → v < s.size → ((y : ℕ) → to y ≡ can_take s v y) → (y : ℕ) → (eqb y v || to y) ≡ step_from s v y
 unfolding step_from
-begun_step s to v m l e bound y =
-    ap (λ b. b && (eqb y v || can_take s v y)) (lt-ltb v s.size l) ∙ ap (λ b. eqb y v || b) (within_row (to y) (can_take s v y) (e y) (bound y))
-  where
-    within_row : (a b : Bool) → a ≡ b → (T b → y < m) → b ≡ (ltb y m && a)
-    within_row a true d h = let k = h tt in grind (arith, nat_tests)
-    within_row a false d h = grind (arith, nat_tests)
+begun_step s to v l e y = ap (λ b. eqb y v || b) (e y) ∙ sym (ap (λ b. b && (eqb y v || can_take s v y)) (lt-ltb v s.size l))
 
 -- One take right more, of c to z: a new path goes to c and on from z.
 module _ (s t : State) (ws : WellFormed s) (wt : WellFormed t) (size : s.size ≡ t.size) (c z : ℕ) (there : z < s.size)
@@ -101,16 +94,11 @@ given_paths s wf c r z lc lz x y =
         ]
       where
         law : (a b : Bool) → a ≡ true → (a && not b) ≡ false → b ≡ true
-        law a true e f = refl
-        law a false e f = grind (arith, nat_tests)
+        law a b e f = grind (arith, nat_tests)
 
     none : (eqb r take_right && not (can_take s c z)) ≡ false → path_from (given c r z s) x y ≡ (path_from s x y || false)
     none h =
-        same_takes (given c r z s) s refl (λ p q. same _ _ (kept p q h) (given_had c r z s p take_right q)) x y ∙ sym (or_false (path_from s x y))
-      where
-        or_false : (b : Bool) → (b || false) ≡ b
-        or_false true = refl
-        or_false false = refl
+        let k = same_takes (given c r z s) s refl (λ p q. same _ _ (kept p q h) (given_had c r z s p take_right q)) x y in grind (arith, nat_tests)
 
 -- A right removed: whatever had no path to who had it has the paths that it had.
 module _ (s : State) (wf : WellFormed s) (c r z : ℕ) where

@@ -2,6 +2,7 @@
 use Rattle.std.proofs.Common.{◌≡◌, ℕ, zero, suc, ◌+◌, ◌<◌, Bool, true, false, ◌&&◌, ◌||◌, T, eqb, ◌⊎◌, sym, refl, ap, ◌∙◌, subst, ap₂, inl, inr, add-one, arith, eqb→eq, ltb→lt, lt→ltb}
 use lib.Dec.{eqb_refl}
 use Rattle.std.proofs.lemmas.Bool.{cases_eq}
+use Rattle.std.proofs.lemmas.Bool.Decides.{nat_tests}
 use Rattle.model.specs.State.{State, WellFormed, is_vertex, take_right}
 use Rattle.model.specs.Closure.{here}
 use Rattle.model.specs.Spans.{TakePath, can_take}
@@ -31,14 +32,7 @@ closing_more A was rows next k step inv x y =
 -- A round with a pivot outside A adds nothing, and one with a pivot of A leaves the rows shut.
 pub closing_skip :
     (A : ℕ → Bool) (was rows : ℕ → ℕ → Bool) (k : ℕ) → false ≡ A k → Shut A rows → Closing A was rows k → Closing A was rows (k + 1)
-closing_skip A was rows k out shut inv = closing_more A was rows rows k (λ x y. law x y (A x) (rows x k) (rows k y) (rows x y) (λ a b c. shut x k y a (sym out) b c)) inv
-  where
-    law : (x y : ℕ) (a b c r : Bool) → (a ≡ true → b ≡ true → c ≡ true → r ≡ true) → r ≡ (r || (a && (b && c)))
-    law x y a b c true f = refl
-    law x y true true true false f = f refl refl refl
-    law x y true true false false f = refl
-    law x y true false c false f = refl
-    law x y false b c false f = refl
+closing_skip A was rows k out shut inv = closing_more A was rows rows k (λ x y. let h = shut x k y in grind (arith, nat_tests)) inv
 
 pub shut_more :
     (A : ℕ → Bool) (rows next : ℕ → ℕ → Bool) (k : ℕ) → true ≡ A k → ((x y : ℕ) → next x y ≡ (rows x y || (A x && (rows x k && rows k y)))) →
@@ -61,12 +55,7 @@ shut_more A rows next k pivot step shut x j y a b c d =
 pub rounds_kept : (A : ℕ → Bool) (e : ℕ → ℕ → Bool) (x y : ℕ) → A x ≡ false → (k : ℕ) → rounds_of A e k x y ≡ e x y
 unfolding rounds_of
 rounds_kept A e x y h zero = refl
-rounds_kept A e x y h (suc k) =
-    ap (λ a. rounds_of A e k x y || (a && (rounds_of A e k x k && rounds_of A e k k y))) h ∙ or_false (rounds_of A e k x y) ∙ rounds_kept A e x y h k
-  where
-    or_false : (b : Bool) → (b || false) ≡ b
-    or_false true = refl
-    or_false false = refl
+rounds_kept A e x y h (suc k) = let before = rounds_kept A e x y h k in grind (arith, nat_tests)
 
 module _ (s : State) where
   pub path_to : (x y : ℕ) → T (path_from s x y) → (x < s.size) × TakePath s x y

@@ -12,7 +12,7 @@ use Rattle.model.proofs.Readings.{subject_vertex}
 use Rattle.model.proofs.Right.{Closed, VertexFacts}
 use Rattle.model.proofs.Least.{certificate_closed, certificate_out}
 use Rattle.spans.specs.Paths.{path_from}
-use Rattle.spans.proofs.Walk.{less_part}
+use Rattle.bits.proofs.Walk.{less_part}
 use Rattle.changing.specs.Reached.{of_some, leads_into, reached_from, giver, beside}
 use Rattle.changing.proofs.Rounds.{path_to, path_from-law}
 use Rattle.changing.proofs.Gathered.{some_to, some_from, not_all}

@@ -1,12 +1,13 @@
 -- One row gets what each row of a set has, row by row.
-use Rattle.std.proofs.Common.{◌≡◌, ℕ, ◌<◌, Bool, true, false, cond, not, ◌&&◌, ◌||◌, T, eqb, sym, refl, ap, ◌∙◌, subst, ap₂, inl, inr, eqb→eq, T_not}
+use Rattle.std.proofs.Common.{◌≡◌, ℕ, ◌<◌, Bool, false, cond, not, ◌&&◌, ◌||◌, T, eqb, sym, ap, ◌∙◌, subst, ap₂, inl, inr, eqb→eq, T_not, arith}
 use lib.Dec.{eqb_refl, not_T}
 use Rattle.std.proofs.lemmas.Bool.{cases_eq, ne_eqb}
+use Rattle.std.proofs.lemmas.Bool.Decides.{nat_tests}
 use Rattle.model.specs.State.{State}
 use Rattle.model.specs.Spans.{can_take}
 use Rattle.model.proofs.Tests.{both, parts, cases, left, right, same, is_true, is_false, from_false}
 use Rattle.spans.specs.Paths.{step_from}
-use Rattle.spans.proofs.Walk.{Without}
+use Rattle.bits.proofs.Walk.{Without}
 use Rattle.changing.specs.Reached.{of_some}
 use Rattle.changing.specs.Rounds.{begun_row}
 use Rattle.changing.proofs.Gathered.{some_to, some_from}
@@ -20,16 +21,12 @@ pub record United (into : ℕ) (set : ℕ → Bool) (was rows : ℕ → ℕ → 
   pub part : (w : ℕ) → T (rest w) → T (set w)
 
 module _ (into : ℕ) (set : ℕ → Bool) (was : ℕ → ℕ → Bool) where
-  pub united_none : United into set was was set
-  united_none =
-      record { others = λ x y d. refl; sound = λ y t. left (was into y) _ t; kept = λ y t. t; whole = λ w y a n. absurd (n a); part = λ w t. t }
-
   pub united_more :
       (rows next : ℕ → ℕ → Bool) (rest rest' : ℕ → Bool) (v : ℕ) → v < 256 → set into ≡ false → T (rest v) → Without v rest rest' →
       ((x y : ℕ) → next x y ≡ (rows x y || (eqb x into && rows v y))) → United into set was rows rest → United into set was next rest'
   united_more rows next rest rest' v l out h w step inv =
       record {
-        others = λ x y d. step x y ∙ ap (λ b. rows x y || (b && rows v y)) (ne_eqb x into d) ∙ or_false (rows x y) ∙ inv.others x y d;
+        others = λ x y d. let other = ne_eqb x into d in let next = step x y in let was = inv.others x y d in grind (arith, nat_tests);
         sound = λ y t.
             elim (cases (rows into y) _ (subst T (step into y) t)) [
               | inl u ↦ inv.sound y u
@@ -44,10 +41,6 @@ module _ (into : ℕ) (set : ℕ → Bool) (was : ℕ → ℕ → Bool) where
         part = λ x u. inv.part x (parts (not (eqb x v)) _ (subst T (w x) u)).1;
       }
     where
-      or_false : (b : Bool) → (b || false) ≡ b
-      or_false true = refl
-      or_false false = refl
-
       other : v ≡ into → ⊥
       other d = from_false (set into) out (subst (λ z. T (set z)) d (inv.part v h))
 
@@ -68,13 +61,9 @@ module _ (into : ℕ) (set : ℕ → Bool) (was : ℕ → ℕ → Bool) where
         | inl e ↦
             ap (λ z. rows z y) e ∙ same _ _ (inv.sound y) back
             ∙ ap₂ (λ z b. was z y || (b && of_some set was y)) (sym e) (sym (is_true _ (subst (λ z. T (eqb x z)) e (eqb_refl x))))
-        | inr d ↦ inv.others x y d ∙ sym (ap (λ b. was x y || (b && of_some set was y)) (ne_eqb x into d) ∙ or_false (was x y))
+        | inr d ↦ let other = ne_eqb x into d in let same = inv.others x y d in grind (arith, nat_tests)
       ]
     where
-      or_false : (b : Bool) → (b || false) ≡ b
-      or_false true = refl
-      or_false false = refl
-
       back : T (was into y || of_some set was y) → T (rows into y)
       back t =
           elim (cases (was into y) _ t) [
@@ -108,7 +97,5 @@ begun_more s A was rows next v e step x y =
       | inl d ↦
           step x y
           ∙ ap (λ b. cond (eqb x v) b (rows x y)) (begun_same s A rows was v y (λ w. e w y) ∙ ap (λ z. begun_row s A was z y) (sym d))
-      | inr d ↦
-          step x y ∙ ap (λ b. cond b (begun_row s A rows v y) (rows x y)) (ne_eqb x v d)
-          ∙ sym (ap (λ b. cond b (begun_row s A was x y) (rows x y)) (ne_eqb x v d))
+      | inr d ↦ let other = ne_eqb x v d in let next = step x y in grind (arith, nat_tests)
     ]

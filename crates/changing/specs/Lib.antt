@@ -1,4 +1,5 @@
 pub mod Reached
 pub mod Rounds
+pub mod Rows
 pub mod Renewed
 pub mod Of

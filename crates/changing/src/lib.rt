@@ -2,8 +2,7 @@
 #![tactic(auto)]
 
 mod kept;
-mod renewal;
 mod rows;
+mod select;
 
 pub use kept::ChangingGraph;
-pub use renewal::Renewal;

@@ -1,106 +1,67 @@
-// Rows of take paths in lent words, of which some are worked out anew. There is a row for each number that a vertex can have.
-ghost use Rattle.std.specs.Prelude.{◌≡◌, ℕ, ◌<◌, ◌≤◌, true, false, ◌&&◌, ◌||◌, T, length, if◌then◌else◌, ◌==◌, nat_eq, nat_lt};
-ghost use Rattle.bits.specs.Rows.{cell};
+// Rows of take paths: one for each number that a vertex can have, with a bit for each vertex.
+mod anew;
+
+ghost use Rattle.std.specs.Prelude.{◌≡◌, ℕ, ◌&&◌, ◌||◌, ◌==◌, if◌then◌else◌};
 ghost use Rattle.bits.specs.Sets.{holds};
-ghost use Rattle.changing.specs.Reached.{of_some};
-ghost use Rattle.changing.specs.Rounds.{Shut, begun_row, rounds_of};
+ghost use Rattle.changing.specs.Rows.{in_rows};
 ghost use Rattle.graph.specs.Graphs.{state};
+ghost use Rattle.spans.specs.Paths.{path_from};
 
-use bits::{VertexSet, row_add, row_clear, row_contains, row_insert, row_union};
+use bits::{VertexSet, row_contains, row_insert, row_union};
 use graph::Graph;
-use model::{TAKE, Vertex};
+use model::Vertex;
+use spans::lead;
 
-// The words of a row, which have a bit for each vertex, and those of all rows.
-pub const ROW: usize = 4;
+// The words of a row, and those of all rows.
+const ROW: usize = 4;
 
-pub const WORDS: usize = 1024;
+const WORDS: usize = 1024;
 
-// Those of the first n vertices whose rows have k.
-pub fn holding(rows: &[u64], n: u8, k: Vertex) -> VertexSet
-    requires { 1024 ≤ length rows.now }
-    ensures { (v : ℕ) → holds result v ≡ (nat_lt v n && cell rows.now 4 v k) }
-{
-    let mut found = VertexSet::empty();
-    for v in 0..n {
-        if row_contains(rows, ROW, v as usize, k as usize) {
-            found.insert(v);
-        }
+#[derive(Drop)]
+pub struct Rows {
+    words: [u64; WORDS],
+}
+
+impl Rows {
+    // Where take paths of the graph lead to from each vertex.
+    pub fn of(graph: &Graph) -> Rows
+        ensures { (x y : ℕ) → in_rows result x y ≡ path_from (state graph.now) x y }
+    {
+        let mut words = [0; WORDS];
+        lead::<4>(graph, &mut words);
+        Rows { words }
     }
-    found
-}
 
-// Each row of the set gets what row `from` has.
-pub fn unite_each(rows: &mut [u64], set: VertexSet, from: Vertex)
-    requires { 1024 ≤ length rows.old }
-    ensures { (x y : ℕ) → cell rows.new 4 x y ≡ (cell rows.old 4 x y || (holds set x && cell rows.old 4 from y)) }
-{
-    let mut rest = set;
-    while let Some(v) = rest.lowest() {
-        rest.remove(v);
-        row_union(rows, ROW, v as usize, from as usize);
+    pub fn row(&self, x: Vertex) -> VertexSet
+        ensures { (y : ℕ) → holds result y ≡ in_rows self.now x y }
+    {
+        VertexSet::at(&self.words, usize::from(x))
     }
-}
 
-// Row `into` gets what each row of the set has.
-fn unite_all(rows: &mut [u64], into: Vertex, set: VertexSet)
-    requires { (1024 ≤ length rows.old) × (holds set into ≡ false) }
-    ensures { (x y : ℕ) → cell rows.new 4 x y ≡ (cell rows.old 4 x y || (x == into && of_some (holds set) (cell rows.old 4) y)) }
-{
-    let mut rest = set;
-    while let Some(w) = rest.lowest() {
-        rest.remove(w);
-        row_union(rows, ROW, into as usize, w as usize);
+    pub fn has(&self, x: Vertex, y: Vertex) -> bool
+        ensures { result ≡ in_rows self.now x y }
+    {
+        row_contains(&self.words, ROW, usize::from(x), usize::from(y))
     }
-}
 
-// Row v, which is of the set, begins again.
-fn begin(graph: &Graph, rows: &mut [u64], set: &VertexSet, v: Vertex)
-    requires { (1024 ≤ length rows.old) × ((v < (state graph.now).size) × (holds set.now v ≡ true)) }
-    ensures { (x y : ℕ) → cell rows.new 4 x y ≡ (if nat_eq x v then begun_row (state graph.now) (holds set.now) (cell rows.old 4) v y else cell rows.old 4 x y) }
-{
-    let i = v as usize;
-    let targets = graph.targets(v, TAKE);
-    row_clear(rows, ROW, i);
-    row_add(rows, ROW, i, &targets);
-    row_insert(rows, ROW, i, i);
-    unite_all(rows, v, targets.difference(set));
-}
-
-pub fn begin_each(graph: &Graph, rows: &mut [u64], set: VertexSet)
-    requires in_bounds { 1024 ≤ length rows.old }
-    requires by_index { (v : ℕ) → T (holds set v) → v < (state graph.now).size }
-    ensures { (x y : ℕ) → cell rows.new 4 x y ≡ (if holds set x then begun_row (state graph.now) (holds set) (cell rows.old 4) x y else cell rows.old 4 x y) }
-{
-    let mut rest = set;
-    while let Some(v) = rest.lowest() {
-        rest.remove(v);
-        begin(graph, rows, &set, v);
+    // Row x has y from now on.
+    pub fn insert(&mut self, x: Vertex, y: Vertex)
+        ensures { (p q : ℕ) → in_rows self.new p q ≡ ((p == x && q == y) || in_rows self.old p q) }
+    {
+        row_insert(&mut self.words, ROW, usize::from(x), usize::from(y));
     }
-}
 
-// Each row of the set that has k gets what row k has.
-fn round(rows: &mut [u64], set: VertexSet, k: Vertex)
-    requires { 1024 ≤ length rows.old }
-    ensures { (x y : ℕ) → cell rows.new 4 x y ≡ (cell rows.old 4 x y || (holds set x && (cell rows.old 4 x k && cell rows.old 4 k y))) }
-{
-    let mut rest = set;
-    while let Some(v) = rest.lowest() {
-        rest.remove(v);
-        if row_contains(rows, ROW, v as usize, k as usize) {
-            row_union(rows, ROW, v as usize, k as usize);
-        }
+    // Row x is the set from now on.
+    fn put(&mut self, x: Vertex, set: &VertexSet)
+        ensures { (p q : ℕ) → in_rows self.new p q ≡ (if p == x then holds set.now q else in_rows self.old p q) }
+    {
+        set.write(&mut self.words, usize::from(x));
     }
-}
 
-// A round for each of the set: one for any other vertex would add nothing.
-pub fn close_each(rows: &mut [u64], n: u8, set: VertexSet)
-    requires in_bounds { 1024 ≤ length rows.old }
-    requires shut { Shut (holds set) (cell rows.old 4) }
-    ensures { (x y : ℕ) → cell rows.new 4 x y ≡ rounds_of (holds set) (cell rows.old 4) n x y }
-{
-    for k in 0..n {
-        if set.contains(k) {
-            round(rows, set, k);
-        }
+    // Row `into` gets what row `from` has.
+    fn unite(&mut self, into: Vertex, from: Vertex)
+        ensures { (x y : ℕ) → in_rows self.new x y ≡ (in_rows self.old x y || (x == into && in_rows self.old from y)) }
+    {
+        row_union(&mut self.words, ROW, usize::from(into), usize::from(from));
     }
 }

@@ -1,8 +1,9 @@
 -- The laws of the first below a bound.
-use Rattle.std.proofs.Common.{◌≡◌, ℕ, zero, suc, ◌+◌, ◌<◌, Bool, true, false, T, Some, None, Option, sym, refl, ap, ◌∙◌, subst, inl, inr, add-one, arith}
+use Rattle.std.proofs.Common.{◌≡◌, ℕ, zero, suc, ◌+◌, ◌<◌, Bool, true, false, T, Some, None, Option, MatchOption, sym, refl, ap, ◌∙◌, subst, inl, inr, add-one, arith}
 use Rattle.std.proofs.lemmas.Bool.{cases_eq}
-use Rattle.std.specs.Option.{option_or}
+use Rattle.std.specs.Option.{option_map, option_or}
 use Rattle.std.specs.Bool.{then_some}
+use Rattle.model.proofs.Tests.{from_true}
 use Rattle.checker.specs.First.{first_below}
 
 pub or_none : {A : Type 0} (a b : Option A) → option_or a b ≡ None → (a ≡ None) × (b ≡ None)
@@ -48,3 +49,11 @@ first_at (suc n) f v a l below here =
           ap (λ x. option_or x (f n)) (none_first n f (λ k m. below k (omega arith))) ∙ subst (λ m. f m ≡ Some a) q here
       | inr d ↦ ap (λ x. option_or x (f n)) (first_at n f v a (omega arith) below here)
     ]
+
+-- The lowest of a set, if it has one, is the first of it.
+pub first_lowest : {A : Type 0} (n : ℕ) (f g : ℕ → Bool) (a : ℕ → A) (low : Option ℕ) → ((k : ℕ) → f k ≡ g k) → ((k : ℕ) → T (f k) → k < n) → MatchOption low ((k : ℕ) → g k ≡ false) (λ v. (g v ≡ true) × ((k : ℕ) → k < v → g k ≡ false)) → option_map a low ≡ first_below n (λ k. then_some (f k) (a k))
+first_lowest n f g a None same below none = sym (none_first n _ (λ k l. ap (λ b. then_some b (a k)) (same k ∙ none k)))
+first_lowest n f g a (Some v) same below low =
+    sym (first_at n _ v (a v) (below v (from_true (f v) (same v ∙ low.0)))
+    (λ k l. ap (λ b. then_some b (a k)) (same k ∙ low.1 k l))
+    (ap (λ b. then_some b (a v)) (same v ∙ low.0)))

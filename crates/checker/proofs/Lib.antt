@@ -2,7 +2,6 @@ pub mod First
 pub mod Conditions
 pub mod Looking
 pub mod Exact
-pub mod Turns
 pub mod Ways
 pub mod Performed
 pub mod Shown

@@ -1,5 +1,5 @@
 -- Rules that were read and applied in turn: which they are, and that each was applicable and there was room.
-use Rattle.std.proofs.Common.{◌≡◌, ℕ, zero, suc, ◌+◌, ◌≤◌, Bool, true, false, cond, ◌&&◌, T, eqb, List, [], ◌∷◌, length, Ok, sym, refl, ap, ◌∙◌, subst, arith}
+use Rattle.std.proofs.Common.{◌≡◌, ℕ, zero, suc, ◌+◌, ◌≤◌, Bool, true, false, cond, ◌&&◌, T, eqb, List, [], ◌∷◌, length, Ok, Err, sym, refl, ap, ◌∙◌, subst, arith}
 use Rattle.std.proofs.lemmas.Bool.{eqb-false, ne_eqb}
 use Rattle.model.specs.State.{State}
 use Rattle.model.specs.Rules.{applicable, applied, after, all_applicable}
@@ -8,8 +8,7 @@ use Rattle.model.specs.declared.Rule.{Rule}
 use Rattle.model.specs.declared.Rule.TheVariants.{Take, Grant, Create, Remove}
 use Rattle.model.proofs.Tests.{both, parts, is_true, from_true}
 use Rattle.graph.specs.Graphs.{creates}
-use Rattle.graph.specs.declared.outcome.Outcome.TheVariants.{Done, Refused}
-use Rattle.graph.specs.declared.outcome.Refusal.TheVariants.{NotApplicable, Full}
+use Rattle.graph.specs.declared.refusal.Refusal.TheVariants.{NotApplicable, Full}
 use Rattle.codec.specs.Reading.{Read, onward}
 use Rattle.codec.specs.Acts.{act_at}
 use Rattle.codec.specs.Replay.{told, performed, performed_at}
@@ -19,7 +18,7 @@ use Rattle.checker.specs.Right.{Listed}
 use Rattle.checker.proofs.Ways.{ok_same}
 
 -- A graph does what is applicable and has room, and nothing else.
-told_ok : (may full : Bool) (i : ℕ) (s t : State) → told (cond may (cond full (Refused Full) Done) (Refused NotApplicable)) i s ≡ Ok t → (may ≡ true) × (full ≡ false) × (s ≡ t)
+told_ok : (may full : Bool) (i : ℕ) (s t : State) → told (cond may (cond full (Err Full) (Ok tt)) (Err NotApplicable)) i s ≡ Ok t → (may ≡ true) × (full ≡ false) × (s ≡ t)
 told_ok true true i s t e = absurd (let z : ◌≡◌ {A = ℕ} 0 1 = cc in omega arith)
 told_ok true false i s t e = (refl, refl, cc)
 told_ok false full i s t e = absurd (let z : ◌≡◌ {A = ℕ} 0 1 = cc in omega arith)
@@ -109,5 +108,5 @@ performed_rules (a ∷ more) bs at i s end l h m =
 
     done : T (applicable s a) → performed s a i ≡ Ok (applied s a)
     done t =
-        ap (λ x. told (cond x (cond (creates a && eqb s.size 255) (Refused Full) Done) (Refused NotApplicable)) i (applied s a)) (is_true _ t) ∙
-        ap (λ x. told (cond x (Refused Full) Done) i (applied s a)) (room_to a s.size (omega arith))
+        ap (λ x. told (cond x (cond (creates a && eqb s.size 255) (Err Full) (Ok tt)) (Err NotApplicable)) i (applied s a)) (is_true _ t) ∙
+        ap (λ x. told (cond x (Err Full) (Ok tt)) i (applied s a)) (room_to a s.size (omega arith))

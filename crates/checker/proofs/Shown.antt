@@ -13,7 +13,7 @@ use Rattle.graph.specs.declared.graph.Graph.{Graph}
 use Rattle.graph.proofs.Sound.{well_formed-law, few_vertices}
 use Rattle.codec.specs.Reading.{Read, byte_at}
 use Rattle.codec.specs.Questions.{narrow_book_at, question_at}
-use Rattle.checker.specs.Reading.{certificate_at, length_at, rules_at, end_at}
+use Rattle.checker.specs.Reading.{Checked, certificate_at, length_at, rules_at, end_at}
 use Rattle.checker.specs.Checked.{has_asked, verdict, certificate_checked, witness_checked, answer_checked, checked}
 use Rattle.checker.specs.Right.{Asked, RightWitness, RightCertificate, RightInput, NeverHas}
 use Rattle.checker.specs.declared.fault.CheckFault.{CheckFault}
@@ -120,3 +120,16 @@ module _ (bs : List ℕ) (opened : (s : State) (at : ℕ) → narrow_book_at bs 
       let there = question_there bs a.book.size a.behind a.question a.start a.asks in
       (right_shows_never a.book (opened _ _ a.opens).formed (only a.question.holder) a.question.right (only a.question.target) w.sets w.right
       a.question.holder a.question.target there.0 there.1 (eqb_refl a.question.holder) (eqb_refl a.question.target)).never
+
+  -- What a call of `check` says, once its answer is the one that the input asks for.
+  abbrev pub Said : Checked (Unit {0}) → Type 0
+  Said r =
+      record {
+        value : r ≡ checked bs;
+        sound : r ≡ Ok tt → RightInput bs;
+        complete : RightInput bs → r ≡ Ok tt;
+        never : (w : RightCertificate bs) → NeverHas w.asked.question w.asked.book;
+      }
+
+  pub check_said : (r : Checked (Unit {0})) → r ≡ checked bs → Said r
+  check_said r value = record { value = value; sound = λ e. input_right (sym value ∙ e); complete = λ w. value ∙ right_passes w; never = certificate_never }

@@ -6,7 +6,7 @@ use Rattle.model.specs.Promise.{longest_witness_len}
 use Rattle.codec.specs.Reading.{byte_at}
 use Rattle.codec.specs.Questions.{narrow_book_at, question_at}
 use Rattle.codec.specs.declared.fault.Fault.TheVariants.{UnknownKind}
-use Rattle.codec.specs.declared.question.Question.{Question}
+use Rattle.model.specs.declared.Question.{Question}
 use Rattle.checker.specs.FirstFault.{first_fault}
 use Rattle.checker.specs.Reading.{Checked, reading, checking, certificate_at, length_at, rules_at, end_at}
 use Rattle.checker.specs.declared.fault.CheckFault.{CheckFault}

@@ -1,7 +1,6 @@
 -- The bytes of answers: three sets, or a count and so many rules, and then the end of the input.
 use Rattle.std.specs.Prelude.{ℕ, zero, suc, ◌+◌, ◌*◌, Bool, cond, List, length, Ok, Err, Result, nat_lt}
-use Rattle.bits.specs.Sets.{holds}
-use Rattle.bits.specs.declared.set.VertexSet.{VertexSet}
+use Rattle.bits.specs.Sets.{holds, VertexSet}
 use Rattle.model.specs.State.{State}
 use Rattle.model.specs.Certificates.{Certificate}
 use Rattle.codec.specs.Reading.{Read, ◌then◌, onward, count_at}
@@ -66,10 +65,10 @@ abbrev pub end_at : List ℕ → ℕ → Checked (Unit {0})
 end_at bs at = cond (nat_lt at (length bs)) (Err (LeftOver at)) (Ok tt)
 
 -- Who is named by a set that was read, and what is meant by a certificate that was read.
-abbrev pub set_read : Checked (VertexSet × ℕ) → Checked ((ℕ → Bool) × ℕ)
-set_read (Ok p) = Ok (holds p.0, p.1)
+abbrev pub set_read : Checked VertexSet → Checked (ℕ → Bool)
+set_read (Ok set) = Ok (holds set)
 set_read (Err f) = Err f
 
-abbrev pub certificate_read : Checked (Stored × ℕ) → Checked (Certificate × ℕ)
-certificate_read (Ok p) = Ok (certificate p.0, p.1)
+abbrev pub certificate_read : Checked Stored → Checked Certificate
+certificate_read (Ok c) = Ok (certificate c)
 certificate_read (Err f) = Err f

@@ -10,7 +10,7 @@ use Rattle.model.specs.declared.Rule.{Rule}
 use Rattle.codec.specs.Reading.{byte_at}
 use Rattle.codec.specs.Acts.{act_at}
 use Rattle.codec.specs.Questions.{narrow_book_at, question_at}
-use Rattle.codec.specs.declared.question.Question.{Question}
+use Rattle.model.specs.declared.Question.{Question}
 use Rattle.checker.specs.Reading.{certificate_at, length_at}
 use Rattle.checker.specs.Checked.{has_asked}
 

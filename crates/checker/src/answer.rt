@@ -1,52 +1,48 @@
 // The bytes of answers.
 ghost use Rattle.std.specs.Prelude.{◌≡◌, ◌+◌, ◌*◌};
 ghost use Rattle.checker.specs.Reading.{set_at, set_read, certificate_at, certificate_read, length_at, end_at};
+ghost use Rattle.codec.specs.Reads.{Reads};
 
 use crate::certificate::Certificate;
 use crate::fault::CheckFault;
 use bits::VertexSet;
-use codec::{Fault, read_count, read_subjects};
+use codec::{Fault, Reader};
 
-// Three sets of vertices below `size`, and the offset behind them.
-pub fn read_certificate(
-    bytes: &[u8],
-    size: u8,
-    at: usize,
-) -> Result<(Certificate, usize), CheckFault>
-    ensures { certificate_read result ≡ certificate_at bytes.now size at }
+// Three sets of vertices below `size`.
+pub fn read_certificate(sheet: &mut Reader, size: u8) -> Result<Certificate, CheckFault>
+    ensures { Reads (certificate_read result) sheet.old sheet.new (λ bs at. certificate_at bs size at) }
 {
-    let (inner, at) = read_set(bytes, size, at)?;
-    let (into, at) = read_set(bytes, size, at)?;
-    let (out, next) = read_set(bytes, size, at)?;
-    Ok((Certificate { inner, into, out }, next))
+    let inner = read_set(sheet, size)?;
+    let into = read_set(sheet, size)?;
+    let out = read_set(sheet, size)?;
+    Ok(Certificate { inner, into, out })
 }
 
-fn read_set(bytes: &[u8], size: u8, at: usize) -> Result<(VertexSet, usize), CheckFault>
-    ensures { set_read result ≡ set_at bytes.now size at }
+fn read_set(sheet: &mut Reader, size: u8) -> Result<VertexSet, CheckFault>
+    ensures { Reads (set_read result) sheet.old sheet.new (λ bs at. set_at bs size at) }
 {
-    match read_subjects(bytes, size, 32, at) {
-        Ok(read) => Ok(read),
-        Err(Fault::OutOfRange { at }) => Err(CheckFault::NoVertex { at }),
-        Err(fault) => Err(CheckFault::Input(fault)),
-    }
+    sheet.subjects(size, 32).map_err(|fault| match fault {
+        Fault::OutOfRange { at } => CheckFault::NoVertex { at },
+        _ => CheckFault::Input(fault),
+    })
 }
 
-// How many rules a witness has, and the offset behind the number.
-pub fn read_length(bytes: &[u8], at: usize) -> Result<(u32, usize), Fault>
-    ensures { result ≡ length_at bytes.now at }
+// How many rules a witness has.
+pub fn read_length(plan: &mut Reader) -> Result<u32, Fault>
+    ensures { Reads result plan.old plan.new length_at }
 {
-    let (high, middle) = read_count(bytes, at)?;
-    let (low, next) = read_count(bytes, middle)?;
-    Ok((u32::from(high) * 65536 + u32::from(low), next))
+    let high = plan.count()?;
+    let low = plan.count()?;
+    Ok(u32::from(high) * 65536 + u32::from(low))
 }
 
 // Nothing may follow an answer.
-pub fn read_end(bytes: &[u8], at: usize) -> Result<(), CheckFault>
-    ensures { result ≡ end_at bytes.now at }
+pub fn read_end(answer: &Reader) -> Result<(), CheckFault>
+    ensures { result ≡ end_at answer.now.bytes.now answer.now.at }
 {
-    if at < bytes.len() {
-        Err(CheckFault::LeftOver { at })
-    } else {
+    if answer.is_done() {
         Ok(())
+    } else {
+        Err(CheckFault::LeftOver { at: answer.at() })
     }
 }

@@ -56,74 +56,100 @@ impl Certificate {
         ensures never { is_some result ≡ false → NeverHave (state graph.now) (holds claim.now.holders) claim.now.right (holds claim.now.targets) }
         ensures value { result ≡ first_fault (state graph.now) (holds claim.now.holders) claim.now.right (holds claim.now.targets) (certificate self.now) }
     {
+        let look = Look {
+            graph,
+            claim,
+            sets: self,
+        };
         let mut looked = Looked::nothing();
         for p in 0..graph.size() {
-            looked = looked.seen(self.look(graph, claim, p));
+            looked = looked.seen(look.at(p));
         }
         looked.first()
     }
+}
 
+// A certificate that is looked at, vertex by vertex: in which graph, and what it is to show.
+#[derive(Drop)]
+struct Look<'a> {
+    graph: &'a Graph,
+    claim: &'a Claim,
+    sets: &'a Certificate,
+}
+
+impl Look<'_> {
     // What is wrong with this vertex, of each kind.
-    fn look(&self, graph: &Graph, claim: &Claim, p: Vertex) -> Looked
-        requires { p < (state graph.now).size }
-        ensures { result ≡ looked_at (state graph.now) (holds claim.now.holders) claim.now.right (holds claim.now.targets) (certificate self.now) p }
+    fn at(&self, p: Vertex) -> Looked
+        requires { p < (state self.now.graph.now).size }
+        ensures { result ≡ looked_at (state self.now.graph.now) (holds self.now.claim.now.holders) self.now.claim.now.right (holds self.now.claim.now.targets) (certificate self.now.sets.now) p }
     {
-        let has = has_one(graph, p, claim.right, &claim.targets);
-        let held = claim.holders.contains(p) && has;
-        let out_holds = self.out.contains(p) && has;
+        let has = self.has_one(p);
+        let held = self.claim.holders.contains(p) && has;
+        let out_holds = self.sets.out.contains(p) && has;
         Looked {
             held: held.then_some(CheckFault::Held { vertex: p }),
             out_holds: out_holds.then_some(CheckFault::OutHolds { vertex: p }),
-            unfit: self.unfit(graph, &claim.holders, p),
+            unfit: self.unfit(p),
         }
     }
 
-    // What breaks a condition: the vertex alone, or else the first of its takes and grants.
-    fn unfit(&self, graph: &Graph, holders: &VertexSet, p: Vertex) -> Option<CheckFault>
-        requires { p < (state graph.now).size }
-        ensures { result ≡ unfit_at (state graph.now) (holds holders.now) (certificate self.now) p }
+    // Has p the right to one of the targets?
+    fn has_one(&self, p: Vertex) -> bool
+        ensures { result ≡ has_some (state self.now.graph.now) self.now.claim.now.right (holds self.now.claim.now.targets) p }
     {
-        let fits = self.standing(graph, holders, p).fits();
-        let takes = self.unfit_takes(graph, p);
-        let grants = self.unfit_grants(graph, holders, p);
-        (!fits)
-            .then_some(CheckFault::UnfitVertex { vertex: p })
-            .or(first_right(p, TAKE, &takes))
-            .or(first_right(p, GRANT, &grants))
+        !self
+            .graph
+            .targets(p, self.claim.right)
+            .intersection(&self.claim.targets)
+            .is_empty()
     }
 
-    fn standing(&self, graph: &Graph, holders: &VertexSet, p: Vertex) -> Standing
-        requires { p < (state graph.now).size }
-        ensures { standing_fits result ≡ vertex_fits (state graph.now) (holds holders.now) (certificate self.now) p }
+    // What breaks a condition: the vertex alone, or else the first of its takes and grants.
+    fn unfit(&self, p: Vertex) -> Option<CheckFault>
+        requires { p < (state self.now.graph.now).size }
+        ensures { result ≡ unfit_at (state self.now.graph.now) (holds self.now.claim.now.holders) (certificate self.now.sets.now) p }
+    {
+        let fits = self.standing(p).fits();
+        (!fits)
+            .then_some(CheckFault::UnfitVertex { vertex: p })
+            .or(first_right(p, TAKE, &self.unfit_takes(p)))
+            .or(first_right(p, GRANT, &self.unfit_grants(p)))
+    }
+
+    fn standing(&self, p: Vertex) -> Standing
+        requires { p < (state self.now.graph.now).size }
+        ensures { standing_fits result ≡ vertex_fits (state self.now.graph.now) (holds self.now.claim.now.holders) (certificate self.now.sets.now) p }
     {
         Standing {
-            subject: graph.is_subject(p),
-            holder: holders.contains(p),
-            inner: self.inner.contains(p),
-            out: self.out.contains(p),
-            into: self.into.contains(p),
+            subject: self.graph.is_subject(p),
+            holder: self.claim.holders.contains(p),
+            inner: self.sets.inner.contains(p),
+            out: self.sets.out.contains(p),
+            into: self.sets.into.contains(p),
         }
     }
 
     // Whom p has take to and shouldn't: what one of O has take to is in O, and what has take to one of I is in I.
-    fn unfit_takes(&self, graph: &Graph, p: Vertex) -> VertexSet
-        ensures { (k : ℕ) → holds result k ≡ take_broken (state graph.now) (certificate self.now) p k }
+    fn unfit_takes(&self, p: Vertex) -> VertexSet
+        ensures { (k : ℕ) → holds result k ≡ take_broken (state self.now.graph.now) (certificate self.now.sets.now) p k }
     {
-        let takes = graph.targets(p, TAKE);
-        let leaving = when(self.out.contains(p), takes.difference(&self.out));
-        let entering = when(!self.into.contains(p), takes.intersection(&self.into));
+        let sets = self.sets;
+        let takes = self.graph.targets(p, TAKE);
+        let leaving = when(sets.out.contains(p), takes.difference(&sets.out));
+        let entering = when(!sets.into.contains(p), takes.intersection(&sets.into));
         leaving.union(&entering)
     }
 
     // Whom p has grant to and shouldn't: whom one of O has grant to is in I, and so is what has grant to one of O or to a holder.
-    fn unfit_grants(&self, graph: &Graph, holders: &VertexSet, p: Vertex) -> VertexSet
-        ensures { (k : ℕ) → holds result k ≡ grant_broken (state graph.now) (holds holders.now) (certificate self.now) p k }
+    fn unfit_grants(&self, p: Vertex) -> VertexSet
+        ensures { (k : ℕ) → holds result k ≡ grant_broken (state self.now.graph.now) (holds self.now.claim.now.holders) (certificate self.now.sets.now) p k }
     {
-        let grants = graph.targets(p, GRANT);
-        let leaving = when(self.out.contains(p), grants.difference(&self.into));
+        let sets = self.sets;
+        let grants = self.graph.targets(p, GRANT);
+        let leaving = when(sets.out.contains(p), grants.difference(&sets.into));
         let entering = when(
-            !self.into.contains(p),
-            grants.intersection(&self.out.union(holders)),
+            !sets.into.contains(p),
+            grants.intersection(&sets.out.union(&self.claim.holders)),
         );
         leaving.union(&entering)
     }
@@ -192,26 +218,17 @@ impl Standing {
     }
 }
 
-// Has p the right to one of the targets?
-fn has_one(graph: &Graph, p: Vertex, right: Right, targets: &VertexSet) -> bool
-    ensures { result ≡ has_some (state graph.now) right (holds targets.now) p }
-{
-    !graph.targets(p, right).intersection(targets).is_empty()
-}
-
 // The lowest of those to whom p has this right and shouldn't.
 fn first_right(p: Vertex, right: Right, unfit: &VertexSet) -> Option<CheckFault>
     ensures { (n : ℕ) (f : ℕ → Bool) → Same f (holds unfit.now) → ((k : ℕ) → T (f k) → k < n) → result ≡ first_below n (λ k. then_some (f k) (UnfitRight p right k)) }
 {
-    match unfit.lowest() {
-        Some(to) => Some(CheckFault::UnfitRight {
-            vertex: p,
-            right,
-            to,
-        }),
-        None => None,
-    }
+    unfit.lowest().map(|to| CheckFault::UnfitRight {
+        vertex: p,
+        right,
+        to,
+    })
 }
+
 // The set if the test holds, else none.
 fn when(test: bool, set: VertexSet) -> VertexSet
     ensures { (k : ℕ) → holds result k ≡ (test && holds set k) }

@@ -7,7 +7,7 @@ use codec::Fault;
 use model::{Right, Vertex};
 use std::fmt;
 
-#[derive(Clone, Copy)]
+#[derive(Clone, Copy, PartialEq, Eq, Debug)]
 pub enum CheckFault {
     // The input can't be read, or a rule of the witness may not be applied.
     Input(Fault),
@@ -48,7 +48,7 @@ pub enum CheckFault {
 }
 
 // The place of a fault: an offset, a vertex, an act or a count; or a right of one vertex to another.
-#[derive(Clone, Copy)]
+#[derive(Clone, Copy, PartialEq, Eq, Debug)]
 pub enum Place {
     At(usize),
     Right {
@@ -79,14 +79,14 @@ impl CheckFault {
     {
         match *self {
             CheckFault::Input(fault) => Place::At(fault.place()),
-            CheckFault::LeftOver { at } => Place::At(at),
-            CheckFault::NoVertex { at } => Place::At(at),
-            CheckFault::Held { vertex } => Place::At(usize::from(vertex)),
-            CheckFault::OutHolds { vertex } => Place::At(usize::from(vertex)),
-            CheckFault::UnfitVertex { vertex } => Place::At(usize::from(vertex)),
+            CheckFault::LeftOver { at } | CheckFault::NoVertex { at } => Place::At(at),
+            CheckFault::Held { vertex }
+            | CheckFault::OutHolds { vertex }
+            | CheckFault::UnfitVertex { vertex } => Place::At(usize::from(vertex)),
             CheckFault::UnfitRight { vertex, right, to } => Place::Right { vertex, right, to },
-            CheckFault::TooLong { count } => Place::At(count as usize),
-            CheckFault::NotReached { count } => Place::At(count as usize),
+            CheckFault::TooLong { count } | CheckFault::NotReached { count } => {
+                Place::At(count as usize)
+            }
         }
     }
 }

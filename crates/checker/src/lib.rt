@@ -13,7 +13,7 @@ ghost use Rattle.std.specs.Prelude.{◌≡◌, Ok};
 
 use answer::{read_certificate, read_end, read_length};
 pub use certificate::{Certificate, Claim};
-use codec::{Fault, Question, read_byte, read_narrow_book, read_question};
+use codec::{Fault, Kind, Question, Reader, read_narrow_book};
 pub use fault::{CheckFault, Place};
 use graph::Graph;
 use witness::{apply_rules, longest_witness};
@@ -26,38 +26,33 @@ pub fn check(bytes: &[u8]) -> Result<(), CheckFault>
     ensures complete { RightInput bytes.now → result ≡ Ok tt }
     ensures never { (w : RightCertificate bytes.now) → NeverHas w.asked.question w.asked.book }
 {
-    let (mut graph, at) = read_narrow_book(bytes)?;
-    check_answer(bytes, at, &mut graph)
+    let (mut graph, mut rest) = read_narrow_book(bytes)?;
+    check_answer(&mut rest, &mut graph)
 }
 
 // The question about a book that was read, and its answer.
-fn check_answer(bytes: &[u8], at: usize, graph: &mut Graph) -> Result<(), CheckFault>
-    ensures { result ≡ answer_checked bytes.now (state graph.old) at }
+fn check_answer(input: &mut Reader, graph: &mut Graph) -> Result<(), CheckFault>
+    ensures { result ≡ answer_checked input.old.bytes.now (state graph.old) input.old.at }
 {
-    let (question, at) = read_question(bytes, graph.size(), at)?;
-    let (kind, next) = read_byte(bytes, at)?;
-    match kind {
-        16 => check_witness(bytes, next, question, graph),
-        17 => check_certificate(bytes, next, question, graph),
+    let question = input.question(graph.size())?;
+    let at = input.at();
+    match input.kind()? {
+        Kind::Yes => check_witness(input, question, graph),
+        Kind::No => check_certificate(input, question, graph),
         _ => Err(CheckFault::Input(Fault::UnknownKind { at })),
     }
 }
 
 // Does the rest of the input show that the right can come about?
-fn check_witness(
-    bytes: &[u8],
-    at: usize,
-    question: Question,
-    graph: &mut Graph,
-) -> Result<(), CheckFault>
-    ensures { result ≡ witness_checked bytes.now (state graph.old) question at }
+fn check_witness(plan: &mut Reader, question: Question, graph: &mut Graph) -> Result<(), CheckFault>
+    ensures { result ≡ witness_checked plan.old.bytes.now (state graph.old) question plan.old.at }
 {
-    let (count, at) = read_length(bytes, at)?;
+    let count = read_length(plan)?;
     if count > longest_witness(graph.size()) {
         return Err(CheckFault::TooLong { count });
     }
-    let next = apply_rules(bytes, count, at, graph)?;
-    read_end(bytes, next)?;
+    apply_rules(plan, count, graph)?;
+    read_end(plan)?;
     if graph.has(question.holder, question.right, question.target) {
         Ok(())
     } else {
@@ -67,17 +62,15 @@ fn check_witness(
 
 // Does the rest of the input show that the right never comes about?
 fn check_certificate(
-    bytes: &[u8],
-    at: usize,
+    sheet: &mut Reader,
     question: Question,
     graph: &Graph,
 ) -> Result<(), CheckFault>
-    ensures { result ≡ certificate_checked bytes.now (state graph.now) question at }
+    ensures { result ≡ certificate_checked sheet.old.bytes.now (state graph.now) question sheet.old.at }
 {
-    let (certificate, next) = read_certificate(bytes, graph.size(), at)?;
-    read_end(bytes, next)?;
-    match certificate.first_fault(graph, &Claim::no(question)) {
-        None => Ok(()),
-        Some(fault) => Err(fault),
-    }
+    let certificate = read_certificate(sheet, graph.size())?;
+    read_end(sheet)?;
+    certificate
+        .first_fault(graph, &Claim::no(question))
+        .map_or(Ok(()), Err)
 }

@@ -1,11 +1,11 @@
 // Witnesses: rules that are read and applied one after the other.
 ghost use Rattle.std.specs.Prelude.{◌≡◌, ◌+◌, ◌*◌};
 ghost use Rattle.checker.specs.Reading.{rules_at};
-ghost use Rattle.codec.specs.Books.{filled};
+ghost use Rattle.codec.specs.Reads.{Reads, filled};
 ghost use Rattle.graph.specs.Graphs.{state};
 ghost use Rattle.model.specs.Promise.{longest_witness_len};
 
-use codec::{Fault, apply_act};
+use codec::{Fault, Reader, apply_act};
 use graph::Graph;
 
 // The most rules of a witness for a graph of so many vertices. None has to be longer.
@@ -16,18 +16,13 @@ pub fn longest_witness(size: u8) -> u32
     8 * n * n
 }
 
-// Applies so many rules, and answers with the offset behind them.
-pub fn apply_rules(
-    bytes: &[u8],
-    count: u32,
-    start: usize,
-    graph: &mut Graph,
-) -> Result<usize, Fault>
-    ensures { filled result (state graph.new) ≡ rules_at count bytes.now start 0 (state graph.old) }
+// Applies so many rules.
+#[tactic(auto, unfolding(crate::specs::Reading::rules_at))]
+pub fn apply_rules(rules: &mut Reader, count: u32, graph: &mut Graph) -> Result<(), Fault>
+    ensures { Reads (filled result (state graph.new)) rules.old rules.new (λ bs at. rules_at count bs at 0 (state graph.old)) }
 {
-    let mut at = start;
     for i in 0..count {
-        at = apply_act(bytes, at, i as usize, graph)?;
+        apply_act(rules, i as usize, graph)?;
     }
-    Ok(at)
+    Ok(())
 }

@@ -1,4 +1,5 @@
 pub mod Inverted
+pub mod KindNumbers
 pub mod Stands
 pub mod ActBytes
 pub mod Codes
@@ -7,19 +8,18 @@ pub mod Gave
 pub mod Rights
 pub mod Vertex
 pub mod Vertices
-pub mod Steps
 pub mod Subjects
 pub mod SetBytes
 pub mod BookBytes
 pub mod RoundTrips
 pub mod Performed
 pub mod Running
+pub mod Steps
 pub mod Played
 pub mod After
 pub mod Looked
 pub mod Alike
 pub mod Broken
 pub mod Told
-pub mod Replays
 pub mod Written
 pub mod Narrow

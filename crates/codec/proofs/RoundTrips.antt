@@ -1,18 +1,15 @@
 -- The round trips of books and acts, and what the reader of acts says by them.
-use Rattle.std.proofs.Common.{◌≡◌, ℕ, ◌-◌, ◌<◌, ◌≤◌, List, [], ◌++◌, length, take, drop, IfOk, Ok, Err, sym, ap, ◌∙◌, append-nil, arith}
-use Rattle.std.specs.List.{between}
+use Rattle.std.proofs.Common.{◌≡◌, ◌-◌, ◌<◌, ◌≤◌, [], ◌++◌, length, take, drop, Ok, sym, ap, ◌∙◌, append-nil, arith}
 use Rattle.model.specs.State.{State}
 use Rattle.model.specs.declared.Rule.{Rule}
 use Rattle.model.specs.declared.Rule.TheVariants.{Take, Grant, Create, Remove}
 use Rattle.graph.specs.Graphs.{state}
 use Rattle.graph.specs.declared.graph.Graph.{Graph}
 use Rattle.graph.proofs.Sound.{right_below, subject_below, some_vertex, few_vertices, well_formed-law}
-use Rattle.codec.specs.Reading.{Read}
-use Rattle.codec.specs.Acts.{act_at, act_bytes}
+use Rattle.codec.specs.Acts.{act_bytes}
 use Rattle.codec.specs.Bookable.{Bookable}
 use Rattle.codec.specs.Books.{book_at}
-use Rattle.codec.specs.Played.{InRange}
-use Rattle.codec.specs.RoundTrips.{AreBytes, BooksReadBack, BooksWriteBack, ActsReadBack, ActsWriteBack}
+use Rattle.codec.specs.RoundTrips.{BooksReadBack, BooksWriteBack, ActsReadBack, ActsWriteBack}
 use Rattle.codec.specs.Writing.{book_bytes}
 use Rattle.codec.proofs.Stands.{Stands, stands_in, stands_part, stands_within}
 use Rattle.codec.proofs.ActBytes.{act_read, act_ok}
@@ -57,22 +54,3 @@ acts_write_back bs bytes n at a next e =
     act_there (Grant t) k = let l = k.0.there in omega arith
     act_there (Create t) k = let l = k.0.there in omega arith
     act_there (Remove t) k = let l = k.0.there in omega arith
-
--- What the reader of acts answers.
-module _ (bs : List ℕ) (bytes : AreBytes bs) (n at : ℕ) where
-  abbrev pub Said : Read Rule → Type 0
-  Said r =
-      record {
-        value : r ≡ act_at bs n at;
-        bound : IfOk r (λ p. (at < p.1) × (p.1 ≤ length bs));
-        says : IfOk r (λ p. between at p.1 bs ≡ act_bytes p.0);
-        range : IfOk r (λ p. InRange n p.0);
-      }
-
-  pub act_said : (r : Read Rule) → r ≡ act_at bs n at → Said r
-  act_said (Ok p) e =
-      let h = acts_write_back bs bytes n at p.0 p.1 (sym e) in
-      let a = h.ends in
-      let l = some_bytes p.0 in
-      record { value = e; bound = (omega arith, h.within); says = h.bytes; range = h.range }
-  act_said (Err f) e = record { value = e; bound = tt; says = tt; range = tt }

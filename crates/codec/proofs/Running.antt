@@ -53,7 +53,7 @@ module _ (bs : List ℕ) where
       }
 
   -- At the end of the input there is nothing to do.
-  acts_end : (most at i : ℕ) (s : State) → length bs ≤ at → acts_at most bs at i s ≡ Ok s
+  pub acts_end : (most at i : ℕ) (s : State) → length bs ≤ at → acts_at most bs at i s ≡ Ok s
   unfolding acts_at
   acts_end zero at i s l = refl
   acts_end (suc most) at i s l = cond-false (ltb at (length bs)) _ _ (le-ltb at (length bs) l)

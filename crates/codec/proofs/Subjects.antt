@@ -77,3 +77,20 @@ named_below bs n w at next r k t =
     no_bit m e j i l a =
         let g : get_or (take w (drop at bs)) (m - 1 - j) 0 ≡ get_or bs (at + (w - 1 - j)) 0 = ap (λ o. get_or (take w (drop at bs)) (o - 1 - j) 0) e ∙ (get_or-take w (drop at bs) (w - 1 - j) 0 (omega arith) ∙ get_or-drop at bs (w - 1 - j) 0) in
         ap (λ b. bit b i) g ∙ bit_past (n - 8 * j) (get_or bs (at + (w - 1 - j)) 0) i (r.fits j l) a
+
+-- A set that was read to its end: what was read of it.
+pub record SetIn (bs : List ℕ) (n w at next : ℕ) : Type 0 where
+  pub value : Ok next ≡ end_of_set bs n w at
+  pub long : length (take w (drop at bs)) ≡ w
+  pub named : (k : ℕ) → T (in_bytes (take w (drop at bs)) k) → k < n
+
+pub set_in : (bs : List ℕ) (n w m at next : ℕ) → 0 < w → m ≤ 0 → end_of_set bs n m next ≡ end_of_set bs n w at → SetIn bs n w at next
+unfolding end_of_set
+set_in bs n w m at next some none inv =
+    let value : Ok next ≡ end_of_set bs n w at = ap (λ k. end_of_set bs n k next) (let z : 0 ≡ m = omega arith in z) ∙ inv in
+    let read = set_read-law bs n w at next (sym value) in
+    record {
+      value = value;
+      long = set_long bs n w at next read some;
+      named = named_below bs n w at next read;
+    }

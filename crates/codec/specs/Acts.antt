@@ -14,15 +14,17 @@ transfer_at bs size at =
     below_at bs at2 8 then λ right at3.
     below_at bs at3 size then λ to next. Ok (record { who = who; other = other; right = right; to = to }, next)
 
+abbrev pub taken : Transfer → Rule
+taken t = Take (record { who = t.who; from = t.other; right = t.right; to = t.to })
+
+abbrev pub granted : Transfer → Rule
+granted t = Grant (record { who = t.who; into = t.other; right = t.right; to = t.to })
+
 abbrev pub taking_at : List ℕ → ℕ → ℕ → Read Rule
-taking_at bs size at =
-    transfer_at bs size at then λ t next.
-    Ok (Take (record { who = t.who; from = t.other; right = t.right; to = t.to }), next)
+taking_at bs size at = transfer_at bs size at then λ t next. Ok (taken t, next)
 
 abbrev pub grant_at : List ℕ → ℕ → ℕ → Read Rule
-grant_at bs size at =
-    transfer_at bs size at then λ t next.
-    Ok (Grant (record { who = t.who; into = t.other; right = t.right; to = t.to }), next)
+grant_at bs size at = transfer_at bs size at then λ t next. Ok (granted t, next)
 
 abbrev pub create_at : List ℕ → ℕ → ℕ → Read Rule
 create_at bs size at =

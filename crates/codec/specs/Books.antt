@@ -1,7 +1,6 @@
 -- The bytes of books: a kind, the number of vertices, who of them acts as bits, and for each vertex its rights.
 use Rattle.std.specs.Prelude.{ℕ, zero, suc, ◌+◌, ◌-◌, ◌*◌, ◌^◌, Bool, cond, ◌&&◌, List, take, drop, Ok, Err, Result, ◌==◌, nat_le, nat_lt}
-use Rattle.bits.specs.Sets.{holds, in_bytes}
-use Rattle.bits.specs.declared.set.VertexSet.{VertexSet}
+use Rattle.bits.specs.Sets.{holds, in_bytes, VertexSet}
 use Rattle.model.specs.State.{State}
 use Rattle.model.specs.Rules.{given}
 use Rattle.graph.specs.Graphs.{bare, state}
@@ -11,6 +10,7 @@ use Rattle.codec.specs.declared.fault.Fault.TheVariants.{UnknownKind, OutOfRange
 use Rattle.codec.specs.declared.book.Layout.{Layout}
 use Rattle.codec.specs.declared.book.Layout.TheVariants.{Narrow, Wide}
 use Rattle.codec.specs.declared.book.Held.{Held}
+use Rattle.codec.specs.declared.reader.Reader.{Reader}
 use Rattle.codec.specs.Reading.{Read, ◌then◌, onward, byte_at, below_at, count_at}
 
 -- The first byte of each layout, the least and the most vertices that it has, and how many bytes say who acts.
@@ -86,16 +86,11 @@ book_at bs =
     subjects_at bs n (set_width l) at2 then λ subjects at3. vertices_at bs n 0 n at3 (bare n subjects)
 
 -- Who is named by a set that was read.
-abbrev pub read_set : Read VertexSet → Read (ℕ → Bool)
-read_set (Ok p) = Ok (holds p.0, p.1)
+abbrev pub read_set : Result VertexSet Fault → Result (ℕ → Bool) Fault
+read_set (Ok set) = Ok (holds set)
 read_set (Err f) = Err f
 
--- The state that was read into a graph.
-abbrev pub read_state : Read Graph → Read State
-read_state (Ok p) = Ok (state p.0, p.1)
+-- The state that was read into a graph, and the offset behind its book.
+abbrev pub read_state : Result (Graph × Reader) Fault → Read State
+read_state (Ok p) = Ok (state p.0, p.1.at)
 read_state (Err f) = Err f
-
--- What is read into a graph that was there before: the offset behind it, and the graph after.
-abbrev pub filled : Result ℕ Fault → State → Read State
-filled (Ok next) s = Ok (s, next)
-filled (Err f) s = Err f

@@ -1,5 +1,7 @@
 pub mod Faults
 pub mod Reading
+pub mod Reads
+pub mod Kinds
 pub mod Acts
 pub mod Books
 pub mod Writing

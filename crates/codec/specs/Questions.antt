@@ -1,7 +1,7 @@
 -- The bytes of questions, and of the books that they are about.
 use Rattle.std.specs.Prelude.{ℕ, cond, List, Ok, Err, ◌==◌}
 use Rattle.model.specs.State.{State}
-use Rattle.codec.specs.declared.question.Question.{Question}
+use Rattle.model.specs.declared.Question.{Question}
 use Rattle.codec.specs.declared.fault.Fault.TheVariants.{UnknownKind}
 use Rattle.codec.specs.Reading.{Read, ◌then◌, byte_at, below_at}
 use Rattle.codec.specs.Books.{book_at}

@@ -4,9 +4,8 @@ use Rattle.model.specs.State.{State}
 use Rattle.model.specs.Rules.{applied}
 use Rattle.model.specs.declared.Rule.{Rule}
 use Rattle.graph.specs.Graphs.{answer}
-use Rattle.graph.specs.declared.outcome.Outcome.{Outcome}
-use Rattle.graph.specs.declared.outcome.Outcome.TheVariants.{Done, Refused}
-use Rattle.graph.specs.declared.outcome.Refusal.TheVariants.{NotApplicable, Full}
+use Rattle.graph.specs.declared.refusal.Refusal.{Refusal}
+use Rattle.graph.specs.declared.refusal.Refusal.TheVariants.{NotApplicable, Full}
 use Rattle.codec.specs.declared.fault.Fault.{Fault}
 use Rattle.codec.specs.declared.fault.Fault.TheVariants.{NotApplicable as Unapplicable, Full as Overfull}
 use Rattle.codec.specs.Reading.{onward}
@@ -15,10 +14,10 @@ use Rattle.codec.specs.Books.{book_at}
 use Rattle.codec.specs.Writing.{book_bytes}
 
 -- What comes of an act that has this number, once a graph has answered it.
-abbrev pub told : Outcome → ℕ → State → Result State Fault
-told Done i s = Ok s
-told (Refused NotApplicable) i s = Err (Unapplicable i)
-told (Refused Full) i s = Err (Overfull i)
+abbrev pub told : Result Unit Refusal → ℕ → State → Result State Fault
+told (Ok _) i s = Ok s
+told (Err NotApplicable) i s = Err (Unapplicable i)
+told (Err Full) i s = Err (Overfull i)
 
 abbrev pub performed : State → Rule → ℕ → Result State Fault
 performed s a i = told (answer s a) i (applied s a)

@@ -7,8 +7,8 @@ use Rattle.model.specs.declared.Rule.{Rule}
 use Rattle.graph.specs.Graphs.{creates}
 use Rattle.codec.specs.declared.fault.Fault.{Fault}
 use Rattle.codec.specs.declared.fault.Fault.TheVariants.{UnknownKind, BadFlag, Missing, OutOfRange, NotRising, NotApplicable, Full}
-use Rattle.codec.specs.declared.history.ReplayError.{ReplayError}
-use Rattle.codec.specs.declared.history.ReplayError.TheVariants.{Input, NoMemory}
+use Rattle.codec.specs.declared.error.InputError.{InputError}
+use Rattle.codec.specs.declared.error.InputError.TheVariants.{Input, NoMemory}
 use Rattle.codec.specs.Acts.{act_bytes}
 use Rattle.codec.specs.Bookable.{Bookable}
 use Rattle.codec.specs.Played.{acts_bytes, InRange, Readable}
@@ -67,7 +67,7 @@ Told input (NotApplicable act) = Stopped input act MayNot
 Told input (Full act) = Stopped input act NoRoom
 
 -- What is so of the fault that was answered, if one was.
-abbrev pub IsFaulted : Result (Vec ℕ Global) ReplayError → (Fault → Type 0) → Type 0
+abbrev pub IsFaulted : Result (Vec ℕ Global) InputError → (Fault → Type 0) → Type 0
 IsFaulted (Ok v) P = Unit {0}
 IsFaulted (Err (Input f)) P = P f
 IsFaulted (Err NoMemory) P = Unit {0}

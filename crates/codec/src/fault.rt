@@ -41,13 +41,12 @@ impl Fault {
         ensures { result ≡ fault_place self.now }
     {
         match *self {
-            Fault::UnknownKind { at } => at,
-            Fault::BadFlag { at } => at,
+            Fault::UnknownKind { at }
+            | Fault::BadFlag { at }
+            | Fault::OutOfRange { at }
+            | Fault::NotRising { at } => at,
             Fault::Missing { length } => length,
-            Fault::OutOfRange { at } => at,
-            Fault::NotRising { at } => at,
-            Fault::NotApplicable { act } => act,
-            Fault::Full { act } => act,
+            Fault::NotApplicable { act } | Fault::Full { act } => act,
         }
     }
 }

@@ -3,18 +3,22 @@
 
 mod act;
 mod book;
+mod error;
 mod fault;
 mod history;
+mod kind;
 mod question;
-mod read;
+mod reader;
 mod theorems;
 mod write;
 
-pub use act::read_act;
-pub use book::{read_book, read_subjects};
+pub use book::read_book;
+pub use error::InputError;
 pub use fault::Fault;
-pub use history::{ReplayError, apply_act, replay};
-pub use question::{Question, read_narrow_book, read_question};
-pub use read::{RIGHTS, read_below, read_byte, read_count};
+pub use history::{apply_act, replay};
+pub use kind::{Kind, UnknownKind};
+pub use model::{Question, RIGHTS};
+pub use question::read_narrow_book;
+pub use reader::Reader;
 pub use theorems::formats_agree;
 pub use write::write_book;

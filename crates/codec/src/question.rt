@@ -2,52 +2,45 @@
 ghost use Rattle.std.specs.Prelude.{◌≡◌, ◌<◌, ◌≤◌, length, IfOk};
 ghost use Rattle.codec.specs.Questions.{question_at, narrow_book_at};
 ghost use Rattle.codec.specs.Books.{read_state};
+ghost use Rattle.codec.specs.Reads.{Reads};
 ghost use Rattle.graph.specs.Graphs.{state};
 
 use crate::book::read_book;
 use crate::fault::Fault;
-use crate::read::{RIGHTS, read_below, read_byte};
+use crate::kind::Kind;
+use crate::reader::Reader;
 use graph::Graph;
-use model::{Right, Vertex};
+use model::{Question, RIGHTS};
 
-// Could `holder` come to have this right to `target`?
-#[derive(Clone, Copy, PartialEq, Eq, Debug)]
-pub struct Question {
-    pub holder: Vertex,
-    pub right: Right,
-    pub target: Vertex,
-}
-
-// A book about which questions may be asked: one of up to 128 vertices.
-pub fn read_narrow_book(bytes: &[u8]) -> Result<(Graph, usize), Fault>
+// A book about which questions may be asked, one of up to 128 vertices, and the rest of the input.
+pub fn read_narrow_book(bytes: &[u8]) -> Result<(Graph, Reader<'_>), Fault>
     ensures value { read_state result ≡ narrow_book_at bytes.now }
     ensures bound { IfOk result (λ p. (state p.0).size ≤ 128) }
+    ensures rest { IfOk result (λ p. p.1.bytes.now ≡ bytes.now) }
 {
-    let (kind, _) = read_byte(bytes, 0)?;
-    if kind != 1 {
+    let Kind::Book = Reader::new(bytes).kind()? else {
         return Err(Fault::UnknownKind { at: 0 });
-    }
+    };
     read_book(bytes)
 }
 
-// A question about a book of so many vertices, and the offset behind it.
-pub fn read_question(bytes: &[u8], size: u8, at: usize) -> Result<(Question, usize), Fault>
-    ensures value { result ≡ question_at bytes.now size at }
-    ensures bound { IfOk result (λ p. (at < p.1) × (p.1 ≤ length bytes.now)) }
-{
-    let (kind, _) = read_byte(bytes, at)?;
-    if kind != 6 {
-        return Err(Fault::UnknownKind { at });
-    }
-    let (holder, _) = read_below(bytes, at + 1, size)?;
-    let (right, _) = read_below(bytes, at + 2, RIGHTS)?;
-    let (target, _) = read_below(bytes, at + 3, size)?;
-    Ok((
-        Question {
+impl Reader<'_> {
+    // A question about a book of so many vertices.
+    pub fn question(&mut self, size: u8) -> Result<Question, Fault>
+        ensures value { Reads result self.old self.new (λ bs at. question_at bs size at) }
+        ensures bound { IfOk result (λ _. self.old.at < self.new.at) }
+    {
+        let at = self.at();
+        let Kind::Question = self.kind()? else {
+            return Err(Fault::UnknownKind { at });
+        };
+        let holder = self.below(size)?;
+        let right = self.below(RIGHTS)?;
+        let target = self.below(size)?;
+        Ok(Question {
             holder,
             right,
             target,
-        },
-        at + 4,
-    ))
+        })
+    }
 }

@@ -5,13 +5,14 @@ ghost use Rattle.codec.specs.Books.{book_at};
 ghost use Rattle.codec.specs.Writing.{book_bytes, head_bytes, vertex_bytes, held_bytes, count_held, row_bytes, Appended};
 ghost use Rattle.graph.specs.Graphs.{state};
 
-use crate::read::RIGHTS;
+use crate::kind::Kind;
 use bits::VertexSet;
 use graph::Graph;
-use model::{Right, Vertex};
+use model::{RIGHTS, Right, Vertex};
 use std::alloc::{AllocError, Global};
 
 // The bytes of a book that stands for the graph's state.
+#[tactic(auto, unfolding(crate::specs::Writing::vertices_bytes, crate::specs::Writing::book_bytes))]
 pub fn write_book(heap: Global, graph: &Graph) -> Result<Vec<u8>, AllocError>
     ensures value { IfOk result (λ v. v.items ≡ book_bytes (state graph.now)) }
     ensures back { IfOk result (λ v. book_at v.items ≡ Ok (state graph.now, length v.items)) }
@@ -31,9 +32,9 @@ fn write_head(graph: &Graph, out: &mut Vec<u8>) -> Result<(), AllocError>
     let size = graph.size();
     let subjects = graph.subjects().to_be_bytes();
     if size <= 128 {
-        write_both(&[1, size], &subjects[16..32], out)
+        write_both(&[u8::from(Kind::Book), size], &subjects[16..32], out)
     } else {
-        write_both(&[7, size], &subjects, out)
+        write_both(&[u8::from(Kind::WideBook), size], &subjects, out)
     }
 }
 
@@ -59,6 +60,7 @@ fn write_vertex(graph: &Graph, p: Vertex, out: &mut Vec<u8>) -> Result<(), Alloc
     write_held(graph, p, out)
 }
 
+#[tactic(auto, unfolding(crate::specs::Writing::count_held))]
 fn held_count(graph: &Graph, p: Vertex) -> usize
     ensures value { result ≡ count_held (state graph.now) p 8 }
     ensures bound { result ≤ 2048 }
@@ -70,6 +72,7 @@ fn held_count(graph: &Graph, p: Vertex) -> usize
     count
 }
 
+#[tactic(auto, unfolding(crate::specs::Writing::held_bytes))]
 fn write_held(graph: &Graph, p: Vertex, out: &mut Vec<u8>) -> Result<(), AllocError>
     ensures { Appended result out.old.items out.new.items (held_bytes (state graph.now) p 8) }
 {
@@ -80,6 +83,7 @@ fn write_held(graph: &Graph, p: Vertex, out: &mut Vec<u8>) -> Result<(), AllocEr
 }
 
 // One right to each of these vertices that is below `size`.
+#[tactic(auto, unfolding(crate::specs::Writing::row_bytes))]
 fn write_row(targets: &VertexSet, r: Right, size: u8, out: &mut Vec<u8>) -> Result<(), AllocError>
     ensures { Appended result out.old.items out.new.items (row_bytes r (holds targets.now) size) }
 {

@@ -4,13 +4,17 @@
 use anyhow::anyhow;
 use std::fs::File;
 use std::io::Read;
-use std::{env, fs, io};
+use std::{env, fmt, fs, io};
 
 // What the command line asks for.
 #[derive(Drop)]
 pub enum Request {
     Help,
-    Run { files: Vec<String> },
+    // `output` is the file that `-o` names.
+    Run {
+        files: Vec<String>,
+        output: Option<String>,
+    },
 }
 
 // Whether a program writes a file beside what it prints: `-o FILE` then names it.
@@ -22,37 +26,38 @@ enum Writes {
 
 // `-h` or `--help` anywhere asks for help; what else begins with `-` is no option that there is; the rest are files.
 pub fn read_request(rt: &HostRuntime) -> anyhow::Result<Request> {
-    let (request, _) = read(rt, Writes::Nothing)?;
-    Ok(request)
+    read(rt, Writes::Nothing)
 }
 
-// So for a program that writes a file beside what it prints: with the name of that file, if `-o` gives one.
-pub fn read_writing_request(rt: &HostRuntime) -> anyhow::Result<(Request, Option<String>)> {
+// So for a program that writes a file beside what it prints: `-o` gives the name of that file.
+pub fn read_writing_request(rt: &HostRuntime) -> anyhow::Result<Request> {
     read(rt, Writes::File)
 }
 
-fn read(rt: &HostRuntime, writes: Writes) -> anyhow::Result<(Request, Option<String>)> {
+fn read(rt: &HostRuntime, writes: Writes) -> anyhow::Result<Request> {
     let mut files = Vec::new(rt.alloc());
     let mut output = None;
-    let mut names_output = false;
-    for arg in env::args(rt)?.skip(1) {
-        if names_output {
-            names_output = false;
-            output = Some(arg);
-        } else if arg.as_str() == "-h" || arg.as_str() == "--help" {
-            return Ok((Request::Help, None));
-        } else if arg.as_str() == "-o" && writes == Writes::File {
-            names_output = true;
-        } else if arg.starts_with("-") {
-            return Err(anyhow!("there is no option {arg}; --help says how to use this program"));
-        } else {
-            files.push(arg)?;
+    let mut args = env::args(rt)?.skip(1);
+    while let Some(arg) = args.next() {
+        match arg.as_str() {
+            "-h" | "--help" => return Ok(Request::Help),
+            "-o" if writes == Writes::File => {
+                let Some(file) = args.next() else {
+                    return Err(anyhow!(
+                        "-o wants the name of a file; --help says how to use this program"
+                    ));
+                };
+                output = Some(file);
+            }
+            option if option.starts_with("-") => {
+                return Err(anyhow!(
+                    "there is no option {option}; --help says how to use this program"
+                ));
+            }
+            _ => files.push(arg)?,
         }
     }
-    if names_output {
-        return Err(anyhow!("-o wants the name of a file; --help says how to use this program"));
-    }
-    Ok((Request::Run { files }, output))
+    Ok(Request::Run { files, output })
 }
 
 // Room for most inputs, so that they aren't moved as they grow. Memory that isn't written to costs nothing.
@@ -84,4 +89,15 @@ pub fn write_output(rt: &HostRuntime, file: &String, bytes: &[u8]) -> anyhow::Re
         return Err(anyhow!("{file} can't be written: {e}"));
     }
     Ok(())
+}
+
+// Tells a fault: a line with its number and its place, and then in words, as the error that ends the program.
+pub fn tell<P: fmt::Display + Drop, F: fmt::Display + Drop>(
+    rt: &HostRuntime,
+    number: u8,
+    place: P,
+    fault: F,
+) -> anyhow::Result<()> {
+    println!(rt; "{number} {place}")?;
+    Err(anyhow!("{fault}"))
 }

@@ -3,9 +3,10 @@
 // The first fault is told instead.
 #![tactic(auto)]
 
-use answers::{AskError, sharing_table};
+use answers::{Answers, InputError, sharing_table};
 use anyhow::anyhow;
 use console::Request;
+use std::alloc::Global;
 
 const HELP: &str = "\
 could tells whether somebody could ever come to have a right, by any acts of any people.
@@ -29,52 +30,55 @@ status is 1.
 example: could -o some.answers chamber.book some.questions
 ";
 
-// Whether acts may stand among the questions.
-#[derive(Clone, Copy)]
-enum Asked {
-    OfOneBook,
-    AfterActs,
-}
-
 fn main(rt: HostRuntime) -> anyhow::Result<()> {
     run(&rt)
 }
 
 fn run(rt: &HostRuntime) -> anyhow::Result<()> {
-    let (request, output) = console::read_writing_request(rt)?;
-    match request {
-        Request::Help => Ok(rt.print(HELP)?),
-        Request::Run { files } => match files.as_slice() {
-            [first, rest @ ..] if first.as_str() == "all" => print_table(rt, rest, &output),
-            [first, rest @ ..] if first.as_str() == "after" => answer(
-                rt,
-                Asked::AfterActs,
-                rest,
-                &output,
-            ),
-            all => answer(rt, Asked::OfOneBook, all, &output),
-        },
+    let (files, output) = match console::read_writing_request(rt)? {
+        Request::Help => return Ok(rt.print(HELP)?),
+        Request::Run { files, output } => (files, output),
+    };
+    match files.as_slice() {
+        [first, rest @ ..] if first.as_str() == "all" => print_table(rt, rest, &output),
+        [first, rest @ ..] if first.as_str() == "after" => answer(
+            rt,
+            rest,
+            &output,
+            |heap, input| history::answer_lines(heap, input),
+            |heap, input| history::answer_records(heap, input),
+        ),
+        all => answer(
+            rt,
+            all,
+            &output,
+            |heap, input| answers::answer_lines(heap, input),
+            |heap, input| answers::answer_records(heap, input),
+        ),
     }
 }
 
-fn answer(
+// Answers an input by one of two rules: `lines` where only lines are wanted, `records` where what shows them is too.
+fn answer<L, R>(
     rt: &HostRuntime,
-    asked: Asked,
     files: &[String],
     output: &Option<String>,
-) -> anyhow::Result<()> {
+    lines: L,
+    records: R,
+) -> anyhow::Result<()>
+where
+    L: Fn(Global, &[u8]) -> Result<Vec<u8>, InputError>,
+    R: Fn(Global, &[u8]) -> Result<Answers, InputError>,
+    requires { (L.IsAlwaysCallable lines) × (R.IsAlwaysCallable records) }
+{
     let input = console::read_input(rt, files)?;
     match output {
-        Some(file) => print_records(rt, asked, &input, file),
-        None => print_lines(rt, asked, &input),
+        Some(file) => print_records(rt, records(rt.alloc(), &input), file),
+        None => print_lines(rt, lines(rt.alloc(), &input)),
     }
 }
 
-fn print_lines(rt: &HostRuntime, asked: Asked, input: &[u8]) -> anyhow::Result<()> {
-    let answered = match asked {
-        Asked::OfOneBook => answers::answer_lines(rt.alloc(), input),
-        Asked::AfterActs => history::answer_lines(rt.alloc(), input),
-    };
+fn print_lines(rt: &HostRuntime, answered: Result<Vec<u8>, InputError>) -> anyhow::Result<()> {
     match answered {
         Ok(lines) => Ok(rt.stdout().write_all(&lines)?),
         Err(error) => tell(rt, error),
@@ -84,14 +88,9 @@ fn print_lines(rt: &HostRuntime, asked: Asked, input: &[u8]) -> anyhow::Result<(
 // The file comes first, so that nothing is printed where it can't be written.
 fn print_records(
     rt: &HostRuntime,
-    asked: Asked,
-    input: &[u8],
+    answered: Result<Answers, InputError>,
     file: &String,
 ) -> anyhow::Result<()> {
-    let answered = match asked {
-        Asked::OfOneBook => answers::answer_records(rt.alloc(), input),
-        Asked::AfterActs => history::answer_records(rt.alloc(), input),
-    };
     match answered {
         Ok(answers) => {
             console::write_output(rt, file, &answers.records)?;
@@ -114,12 +113,9 @@ fn print_table(rt: &HostRuntime, files: &[String], output: &Option<String>) -> a
     }
 }
 
-fn tell(rt: &HostRuntime, error: AskError) -> anyhow::Result<()> {
+fn tell(rt: &HostRuntime, error: InputError) -> anyhow::Result<()> {
     match error {
-        AskError::Input(fault) => {
-            println!(rt; "{} {}", fault.number(), fault.place())?;
-            Err(anyhow!("{fault}"))
-        }
-        AskError::NoMemory => Err(anyhow!("there is not enough memory")),
+        InputError::Input(fault) => console::tell(rt, fault.number(), fault.place(), fault),
+        InputError::NoMemory => Err(anyhow!("there is not enough memory")),
     }
 }

@@ -1,5 +1,5 @@
 -- A graph stands for a well-formed state, whose subjects and rights are among those that there are.
-use Rattle.std.proofs.Common.{◌≡◌, ℕ, ◌+◌, ◌*◌, ◌<◌, Bool, true, false, cond, ◌&&◌, T, eqb, ltb, sym, ap, ◌∙◌, subst, arith, ltb→lt, lt→ltb}
+use Rattle.std.proofs.Common.{◌≡◌, ℕ, get_or, [], length, Ok, Err, ◌<◌, Bool, true, false, cond, ◌&&◌, T, eqb, ltb, sym, ap, ◌∙◌, subst, ltb→lt, lt→ltb}
 use Rattle.model.specs.State.{WellFormed, is_vertex, is_subject, take_right, grant_right}
 use Rattle.model.specs.Rules.{applicable}
 use Rattle.model.specs.declared.Rule.{Rule}
@@ -12,23 +12,24 @@ use Rattle.model.specs.declared.Grant.{Grant as GrantRule}
 use Rattle.model.specs.declared.Create.{Create as CreateRule}
 use Rattle.model.specs.declared.Remove.{Remove as RemoveRule}
 use Rattle.graph.specs.declared.graph.Graph.{Graph}
-use Rattle.graph.specs.declared.outcome.Outcome.TheVariants.{Done, Refused}
-use Rattle.graph.specs.declared.outcome.Refusal.TheVariants.{NotApplicable, Full}
+use Rattle.graph.specs.declared.refusal.Refusal.TheVariants.{NotApplicable, Full}
+
+-- A right below 8 has a row.
+pub eight : (g : Graph) (p r : ℕ) → p < length g.rows → r < 8 → r < length (get_or g.rows p [])
+eight g p r h l = subst (λ n. r < n) (sym (g.whole p h)) l
 
 pub right_below : (g : Graph) (p r q : ℕ) → T ((state g).has p r q) → r < 8
 unfolding state in_table
-right_below g p r q t = ltb→lt r 8 (parts (ltb r 8) (in_row g.rows (8 * p + r) q) t).0
+right_below g p r q t = ltb→lt r 8 (parts (ltb r 8) (in_row (get_or g.rows p []) r q) t).0
 
 pub holder_below : (g : Graph) (p r q : ℕ) → T ((state g).has p r q) → p < (state g).size
 unfolding state in_table
 holder_below g p r q t =
-    let h = parts (ltb r 8) (in_row g.rows (8 * p + r) q) t in
-    let l = (g.held (8 * p + r) q h.1).0 in
-    omega arith
+    (g.held p r q t).0
 
 pub target_below : (g : Graph) (p r q : ℕ) → T ((state g).has p r q) → q < (state g).size
 unfolding state in_table
-target_below g p r q t = (g.held (8 * p + r) q (parts (ltb r 8) (in_row g.rows (8 * p + r) q) t).1).1
+target_below g p r q t = (g.held p r q t).1
 
 pub subject_below : (g : Graph) (p : ℕ) → T ((state g).subject p) → p < (state g).size
 unfolding state
@@ -99,9 +100,9 @@ module _ (g : Graph) (a : Rule) (yes' : true ≡ entitled (state g) a) where
   remove_there d e = subject_below g d.who (parts ((state g).subject d.who) _ (holds_of (Remove d) e)).0
 
   -- What is answered to an entitled rule depends on the room that is left.
-  pub answered : (b : Bool) → (creates a && eqb (state g).size 255) ≡ b → cond b (Refused Full) Done ≡ answer (state g) a
+  pub answered : (b : Bool) → (creates a && eqb (state g).size 255) ≡ b → cond b (Err Full) (Ok tt) ≡ answer (state g) a
   answered b e =
-      ap (λ t. cond t (Refused Full) Done) (sym e) ∙ ap (λ t. cond t (cond (creates a && eqb (state g).size 255) (Refused Full) Done) (Refused NotApplicable)) (yes' ∙ entitled_is g a)
+      ap (λ t. cond t (Err Full) (Ok tt)) (sym e) ∙ ap (λ t. cond t (cond (creates a && eqb (state g).size 255) (Err Full) (Ok tt)) (Err NotApplicable)) (yes' ∙ entitled_is g a)
 
-pub refused : (g : Graph) (a : Rule) → false ≡ entitled (state g) a → Refused NotApplicable ≡ answer (state g) a
-refused g a h = ap (λ t. cond t (cond (creates a && eqb (state g).size 255) (Refused Full) Done) (Refused NotApplicable)) (h ∙ entitled_is g a)
+  pub done : (b : Rule) → a ≡ b → creates b ≡ false → Ok tt ≡ answer (state g) a
+  done b e old = answered false (ap (λ c. creates c && eqb (state g).size 255) e ∙ ap (λ t. t && eqb (state g).size 255) old)

@@ -1,5 +1,5 @@
 -- The protection state that a graph stands for, and what applying a rule to a graph answers.
-use Rattle.std.specs.Prelude.{ℕ, suc, Bool, true, false, cond, ◌&&◌, ◌||◌, ◌==◌, nat_lt}
+use Rattle.std.specs.Prelude.{ℕ, suc, Bool, true, false, cond, ◌&&◌, ◌||◌, ◌==◌, nat_lt, Result, Ok, Err}
 use Rattle.bits.specs.Sets.{holds}
 use Rattle.model.specs.Bit.{bit}
 use Rattle.model.specs.State.{State, take_right, grant_right}
@@ -8,9 +8,8 @@ use Rattle.model.specs.declared.Rule.{Rule}
 use Rattle.model.specs.declared.Rule.TheVariants.{Take, Grant, Create, Remove}
 use Rattle.graph.specs.Table.{in_table}
 use Rattle.graph.specs.declared.graph.Graph.{Graph}
-use Rattle.graph.specs.declared.outcome.Outcome.{Outcome}
-use Rattle.graph.specs.declared.outcome.Outcome.TheVariants.{Done, Refused}
-use Rattle.graph.specs.declared.outcome.Refusal.TheVariants.{NotApplicable, Full}
+use Rattle.graph.specs.declared.refusal.Refusal.{Refusal}
+use Rattle.graph.specs.declared.refusal.Refusal.TheVariants.{NotApplicable, Full}
 
 unfoldable pub state : Graph → State
 state g = record { size = g.size; subject = holds g.subjects; has = in_table g.rows }
@@ -47,9 +46,5 @@ creates (Create _) = true
 creates (Remove _) = false
 
 -- What is answered: a rule that may not be applied is refused, and so is a 256th vertex; any other is done.
-abbrev pub answer : State → Rule → Outcome
-answer s a = cond (applicable s a) (cond (creates a && s.size == 255) (Refused Full) Done) (Refused NotApplicable)
-
-abbrev pub is_done : Outcome → Bool
-is_done Done = true
-is_done (Refused _) = false
+abbrev pub answer : State → Rule → Result Unit Refusal
+answer s a = cond (applicable s a) (cond (creates a && s.size == 255) (Err Full) (Ok tt)) (Err NotApplicable)

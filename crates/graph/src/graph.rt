@@ -4,27 +4,29 @@ mod build;
 mod query;
 
 ghost use Rattle.std.specs.Prelude.{◌<◌};
-ghost use Rattle.graph.specs.Table.{SubjectsFit, RowsFit};
+ghost use Rattle.graph.specs.Table.{EachWhole, SubjectsFit, RowsFit};
 
 use bits::VertexSet;
+use model::RIGHTS;
 
 // The most vertices of a graph, so that a byte numbers each and their count fits one too.
 const MOST: u8 = 255;
 
-// The rights that there are.
-const RIGHTS: u8 = 8;
+// How many numbers a vertex can have.
+const NUMBERS: usize = 256;
 
-// A row for each of 256 vertices and 8 rights.
-const ROWS: usize = 2048;
+// A row for each right.
+const ROWS: usize = RIGHTS as usize;
 
 #[derive(Drop)]
 pub struct Graph {
     size: u8,
     subjects: VertexSet,
-    // The targets of right r of vertex p are at 8 p + r.
-    rows: [VertexSet; ROWS],
+    // Whom a vertex has each right to.
+    rows: [[VertexSet; ROWS]; NUMBERS],
     ghost some: { 0 < size },
     ghost few: { size < 256 },
     ghost acting: { SubjectsFit size subjects },
+    ghost whole: { EachWhole rows },
     ghost held: { RowsFit size rows },
 }

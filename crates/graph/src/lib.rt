@@ -2,8 +2,10 @@
 // A graph stands for a state of the model (specs/Graphs.antt), and every contract speaks of that state.
 #![tactic(auto)]
 
+mod apply;
 mod graph;
-mod outcome;
+mod refusal;
 
+pub use apply::Apply;
 pub use graph::Graph;
-pub use outcome::{Outcome, Refusal};
+pub use refusal::Refusal;

@@ -1,3 +1,3 @@
-pub mod Turns
 pub mod Told
+pub mod Turns
 pub mod Said

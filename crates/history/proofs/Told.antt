@@ -1,12 +1,14 @@
 -- What an input that was read through says: the history that stands in its bytes, and that each question is decided.
 use Rattle.std.proofs.Common.{◌≡◌, ℕ, zero, suc, ◌+◌, ◌<◌, ◌≤◌, eqb, ltb, leb, List, [], ◌∷◌, ◌++◌, length, get_or, Ok, sym, ap, ◌∙◌, subst, inl, inr, add-zero, arith}
 use Rattle.std.proofs.lemmas.List.{length-append}
+use Rattle.std.proofs.lemmas.List.Elements.{All-nil, All-cons}
+use Rattle.std.specs.List.{All}
 use Rattle.std.proofs.lemmas.Bool.{eqb-true, ltb-false, leb-true}
 use Rattle.model.specs.State.{State, WellFormed}
 use Rattle.model.specs.declared.Rule.{Rule}
 use Rattle.model.proofs.Steps.{applied_well}
 use Rattle.codec.specs.declared.fault.Fault.TheVariants.{UnknownKind, OutOfRange}
-use Rattle.codec.specs.declared.question.Question.{Question}
+use Rattle.model.specs.declared.Question.{Question}
 use Rattle.codec.specs.Acts.{act_at, act_bytes}
 use Rattle.codec.specs.Books.{book_at}
 use Rattle.codec.specs.Questions.{question_at, narrow_book_at}
@@ -23,7 +25,7 @@ use Rattle.codec.proofs.Stands.{Stands, stands_append, stands_within, stands_who
 use Rattle.answers.proofs.Within.{decided_so, shown}
 use Rattle.history.specs.Events.{Event, act, ask, question_bytes, events_bytes, Askable, Goes, questions_in}
 use Rattle.history.specs.Posed.{Posed, posed_question_at, posed_at, posed}
-use Rattle.history.specs.Promised.{EachPosed, DecidedThen, ShownThen, Told}
+use Rattle.history.specs.Promised.{DecidedThen, ShownThen, Told}
 
 -- A question that was read stands in the bytes.
 pub record QuestionStood (bs : List ℕ) (s : State) (at : ℕ) (q : Question) (next : ℕ) : Type 0 where
@@ -35,13 +37,8 @@ pub record Sound (p : Posed) : Type 0 where
   pub formed : WellFormed p.about
   pub askable : Askable p.about p.question
 
-pub each_map : (P Q : Posed → Type 0) → ((p : Posed) → P p → Q p) → (ps : List Posed) → EachPosed P ps → EachPosed Q ps
-unfolding EachPosed
-each_map P Q f [] h = tt
-each_map P Q f (p ∷ more) h = (f p h.0, each_map P Q f more h.1)
-
 module _ (bs : List ℕ) where
-  question_ok : (s : State) (at : ℕ) (q : Question) (next : ℕ) → posed_question_at bs at s.size ≡ Ok (q, next) → QuestionStood bs s at q next
+  pub question_ok : (s : State) (at : ℕ) (q : Question) (next : ℕ) → posed_question_at bs at s.size ≡ Ok (q, next) → QuestionStood bs s at q next
   question_ok s at q next e =
       elim (cond_ways (leb s.size 128) _ _ _ e) [
         | inr w ↦ never_ok (OutOfRange at) (q, next) w.1
@@ -72,15 +69,15 @@ module _ (bs : List ℕ) where
     pub stands : Stands bs at (events_bytes events)
     pub ends : at + length (events_bytes events) ≡ length bs
     pub asks : ps ≡ questions_in s events
-    pub each : EachPosed Sound ps
+    pub each : All Sound ps
 
   no_event : (at : ℕ) (s : State) (ps : List Posed) → at ≡ length bs → [] ≡ ps → Stood at s ps
-  unfolding Goes events_bytes questions_in EachPosed
+  unfolding Goes questions_in
   no_event at s ps l e =
-      record { events = []; goes = tt; stands = tt; ends = add-zero at ∙ l; asks = sym e; each = subst (EachPosed Sound) e tt }
+      record { events = []; goes = tt; stands = tt; ends = add-zero at ∙ l; asks = sym e; each = subst (All Sound) e (All-nil Sound) }
 
   one_question : (at : ℕ) (s : State) (q : Question) (next : ℕ) (ps : List Posed) → WellFormed s → QuestionStood bs s at q next → Stood next s ps → Stood at s (record { about = s; question = q } ∷ ps)
-  unfolding Goes events_bytes questions_in EachPosed
+  unfolding Goes questions_in
   one_question at s q next ps wf h k =
       let z = h.ends in
       let ends = k.ends in
@@ -91,11 +88,11 @@ module _ (bs : List ℕ) where
         stands = stands_append bs (question_bytes q) (events_bytes k.events) at h.stands (subst (λ m. Stands bs m (events_bytes k.events)) z k.stands);
         ends = omega arith;
         asks = ap (λ more. record { about = s; question = q } ∷ more) k.asks;
-        each = (record { formed = wf; askable = h.askable }, k.each);
+        each = All-cons Sound _ ps (record { formed = wf; askable = h.askable }) k.each;
       }
 
   one_act : (at : ℕ) (s t : State) (a : Rule) (next : ℕ) (ps : List Posed) → s.size < 256 → DoneWell s a t → ActStood bs s.size at a next → Stood next t ps → Stood at s ps
-  unfolding Goes events_bytes questions_in
+  unfolding Goes questions_in
   one_act at s t a next ps l d h k =
       let z = h.ends in
       let ends = k.ends in
@@ -110,7 +107,7 @@ module _ (bs : List ℕ) where
       }
 
   module _ (bytes : AreBytes bs) where
-    done_act : (at i : ℕ) (s t : State) (next : ℕ) → performed_at bs at i s ≡ Ok (t, next) → (a : Rule) × DoneWell s a t × ActStood bs s.size at a next
+    pub done_act : (at i : ℕ) (s t : State) (next : ℕ) → performed_at bs at i s ≡ Ok (t, next) → (a : Rule) × DoneWell s a t × ActStood bs s.size at a next
     done_act at i s t next e =
         let q = onward_ok (act_at bs s.size at) (λ x. onward (performed s x.0 i) λ u. Ok (u, x.1)) (t, next) e in
         let p = onward_ok (performed s q.0.0 i) (λ u. Ok (u, q.0.1)) (t, next) q.2 in
@@ -152,7 +149,7 @@ module _ (bs : List ℕ) where
     -- The whole input.
     pub record Heard (ps : List Posed) : Type 0 where
       pub told : Told bs ps
-      pub each : EachPosed Sound ps
+      pub each : All Sound ps
 
     pub heard : (ps : List Posed) → posed bs ≡ Ok ps → Heard ps
     unfolding posed

@@ -1,129 +1,82 @@
--- One turn of the loop over acts and questions: what is left to answer before it, by what is left after it.
-use Rattle.std.proofs.Common.{◌≡◌, ℕ, zero, suc, ◌+◌, ◌<◌, ◌≤◌, Bool, true, false, cond, eqb, ltb, List, [], ◌∷◌, ◌++◌, length, get_or, Ok, Err, Result, sym, refl, ap, ◌∙◌, ap₂, append_assoc, append-nil, arith}
-use Rattle.std.proofs.lemmas.Bool.{lt-ltb, le-ltb, cond-false, eq-eqb, ne_eqb}
+-- What is left of the input to answer: before one act or question, and after it.
+use Rattle.std.proofs.Common.{◌≡◌, ℕ, zero, suc, ◌+◌, ◌<◌, ◌≤◌, cond, eqb, ltb, List, [], length, get_or, Ok, Err, Result, sym, refl, ap, ◌∙◌, ap₂, arith}
+use Rattle.std.proofs.lemmas.Bool.{lt-ltb, le-ltb, cond-true, cond-false, eq-eqb, ne_eqb}
 use Rattle.model.specs.State.{State}
 use Rattle.codec.specs.declared.fault.Fault.{Fault}
-use Rattle.codec.specs.declared.question.Question.{Question}
+use Rattle.model.specs.declared.Question.{Question}
 use Rattle.codec.specs.Reading.{Read, onward}
 use Rattle.codec.specs.Questions.{narrow_book_at}
 use Rattle.codec.specs.Replay.{performed_at}
-use Rattle.codec.proofs.Inverted.{err_same, never_err}
+use Rattle.codec.specs.RoundTrips.{AreBytes}
+use Rattle.codec.proofs.RoundTrips.{some_bytes}
+use Rattle.history.specs.Left.{first}
 use Rattle.history.specs.Posed.{Posed, posed_question_at, posed_at, posed}
-use Rattle.history.specs.Printed.{line_to, record_to, lines_to, records_to, printed}
+use Rattle.history.proofs.Told.{question_ok, done_act}
 
--- What is left to print, behind what was printed.
-abbrev pub behind : Bool → List ℕ → List ℕ → Result (List Posed) Fault → Result (List ℕ × List ℕ) Fault
-behind records ls rs r = onward r λ ps. Ok (ls ++ lines_to ps, rs ++ cond records (records_to ps) [])
+-- It is the same how one goes on, if it is the same from all that there may be.
+onward_same : {A B : Type 0} (r : Result A Fault) (f g : A → Result B Fault) → ((a : A) → r ≡ Ok a → f a ≡ g a) → onward r f ≡ onward r g
+onward_same (Ok a) f g h = h a refl
+onward_same (Err d) f g h = refl
 
-pub behind_none : (records : Bool) (r : Result (List Posed) Fault) → behind records [] [] r ≡ printed records r
-behind_none records (Ok ps) = refl
-behind_none records (Err f) = refl
+module _ (bs : List ℕ) (bytes : AreBytes bs) where
+  -- What is asked or done there, with so many turns after it.
+  asked : ℕ → ℕ → ℕ → State → Result (List Posed) Fault
+  asked m at i s = onward (posed_question_at bs at s.size) λ q. first (record { about = s; question = q.0 }) (posed_at m bs q.1 i s)
 
-pub printed_err : (records : Bool) (r : Result (List Posed) Fault) (f : Fault) → Err f ≡ printed records r → r ≡ Err f
-printed_err records (Ok ps) f e = never_err _ f (sym e)
-printed_err records (Err d) f e = ap (λ h. Err h) (err_same {A = List ℕ × List ℕ} d f (sym e))
+  acted : ℕ → ℕ → ℕ → State → Result (List Posed) Fault
+  acted m at i s = onward (performed_at bs at i s) λ t. posed_at m bs t.1 (i + 1) t.0
 
--- At an offset, with so many acts done: what is left to answer, behind what was answered, is all of R.
-pub record Running (bs : List ℕ) (records : Bool) (at i : ℕ) (s : State) (ls rs : List ℕ) (R : Result (List ℕ × List ℕ) Fault) : Type 0 where
-  pub most : ℕ
-  pub enough : length bs ≤ at + most
-  pub counted : i ≤ at
-  pub rest : behind records ls rs (posed_at most bs at i s) ≡ R
+  -- Whatever the number of turns, if it is enough.
+  same_turns : (m n at i : ℕ) (s : State) → length bs ≤ at + m → length bs ≤ at + n → posed_at m bs at i s ≡ posed_at n bs at i s
+  unfolding posed_at
+  same_turns zero zero at i s l k = refl
+  same_turns zero (suc n) at i s l k = sym (cond-false (ltb at (length bs)) _ _ (le-ltb at (length bs) (omega arith)))
+  same_turns (suc m) zero at i s l k = cond-false (ltb at (length bs)) _ _ (le-ltb at (length bs) (omega arith))
+  same_turns (suc m) (suc n) at i s l k =
+      ap₂ (λ a b. cond (ltb at (length bs)) (cond (eqb (get_or bs at 0) 6) a b) (Ok []))
+      (onward_same (posed_question_at bs at s.size) _ _ (λ q e.
+      let h = (question_ok bs s at q.0 q.1 e).ends in ap (first (record { about = s; question = q.0 })) (same_turns m n q.1 i s (omega arith) (omega arith))))
+      (onward_same (performed_at bs at i s) _ _ (λ t e.
+      let d = done_act bs bytes at i s t.0 t.1 e in
+      let h = d.2.ends in
+      let b = some_bytes d.0 in same_turns m n t.1 (i + 1) t.0 (omega arith) (omega arith)))
 
--- One question more.
-posed_more :
-    (records : Bool) (ls rs : List ℕ) (p : Posed) (r : Result (List Posed) Fault) →
-    behind records (ls ++ line_to p) (rs ++ cond records (record_to p) []) r ≡ behind records ls rs (onward r λ more. Ok (p ∷ more))
-unfolding lines_to records_to
-posed_more true ls rs p (Ok ps) =
-    ap₂ (λ a b. Ok (a, b)) (append_assoc ls (line_to p) (lines_to ps)) (append_assoc rs (record_to p) (records_to ps))
-posed_more false ls rs p (Ok ps) =
-    ap₂ (λ a b. Ok (a, b)) (append_assoc ls (line_to p) (lines_to ps)) (append_assoc rs [] [])
-posed_more records ls rs p (Err f) = refl
+  pub nothing_left : (at i : ℕ) (s : State) → length bs ≤ at → posed_at (length bs) bs at i s ≡ Ok []
+  unfolding posed_at
+  nothing_left at i s l = same_turns (length bs) zero at i s (omega arith) (omega arith)
 
-module _ (bs : List ℕ) (records : Bool) (at i : ℕ) (s : State) (ls rs : List ℕ) {R : Result (List ℕ × List ℕ) Fault} (inv : Running bs records at i s ls rs R) where
-  pub running_done : length bs ≤ at → Ok (ls, rs) ≡ R
-  unfolding posed_at lines_to records_to
-  running_done l =
-      ap₂ (λ a b. Ok (a, b)) (sym (append-nil ls)) (sym (nothing records)) ∙ ap (behind records ls rs) (sym (none inv.most)) ∙ inv.rest
-    where
-      none : (m : ℕ) → posed_at m bs at i s ≡ Ok []
-      none zero = refl
-      none (suc m) = cond-false (ltb at (length bs)) _ _ (le-ltb at (length bs) l)
-
-      nothing : (b : Bool) → rs ++ cond b [] [] ≡ rs
-      nothing true = append-nil rs
-      nothing false = append-nil rs
-
-  module _ (l : at < length bs) where
-    -- There is a turn left.
-    left : (m : ℕ) → m ≡ inv.most → (k : ℕ) × (m ≡ suc k)
-    left zero e = absurd (let h = inv.enough in omega arith)
-    left (suc k) e = (k, refl)
-
-    turn : (k : ℕ) × (inv.most ≡ suc k)
-    turn = left inv.most refl
-
-    asked : ℕ → Result (List Posed) Fault
-    asked k = onward (posed_question_at bs at s.size) λ q. onward (posed_at k bs q.1 i s) λ more. Ok (record { about = s; question = q.0 } ∷ more)
-
-    acted : ℕ → Result (List Posed) Fault
-    acted k = onward (performed_at bs at i s) λ t. posed_at k bs t.1 (i + 1) t.0
-
-    step : (k : ℕ) → inv.most ≡ suc k → behind records ls rs (cond (eqb (get_or bs at 0) 6) (asked k) (acted k)) ≡ R
+  module _ (at i : ℕ) (s : State) (l : at < length bs) where
+    one_turn : posed_at (length bs) bs at i s ≡ cond (eqb (get_or bs at 0) 6) (asked (length bs) at i s) (acted (length bs) at i s)
     unfolding posed_at asked acted
-    step k e =
-        ap (λ b. behind records ls rs (cond b (cond (eqb (get_or bs at 0) 6) (asked k) (acted k)) (Ok []))) (sym (lt-ltb at (length bs) l))
-        ∙ ap (λ m. behind records ls rs (posed_at m bs at i s)) (sym e) ∙ inv.rest
+    one_turn = same_turns (length bs) (suc (length bs)) at i s (omega arith) (omega arith) ∙ cond-true (ltb at (length bs)) _ _ (lt-ltb at (length bs) l)
 
     -- A question.
     module _ (six : get_or bs at 0 ≡ 6) where
-      ask_step : (k : ℕ) → inv.most ≡ suc k → behind records ls rs (asked k) ≡ R
-      ask_step k e = ap (λ b. behind records ls rs (cond b (asked k) (acted k))) (sym (eq-eqb (get_or bs at 0) 6 six)) ∙ step k e
+      ask_turn : posed_at (length bs) bs at i s ≡ asked (length bs) at i s
+      ask_turn = one_turn ∙ cond-true (eqb (get_or bs at 0) 6) _ _ (eq-eqb (get_or bs at 0) 6 six)
 
-      pub ask_broken : (f : Fault) → ◌≡◌ {A = Read Question} (Err f) (posed_question_at bs at s.size) → Err f ≡ R
+      pub ask_broken : (f : Fault) → ◌≡◌ {A = Read Question} (Err f) (posed_question_at bs at s.size) → posed_at (length bs) bs at i s ≡ Err f
       unfolding asked
-      ask_broken f g =
-          ap (λ r. behind records ls rs (onward r λ q. onward (posed_at turn.0 bs q.1 i s) λ more. Ok (record { about = s; question = q.0 } ∷ more))) g
-          ∙ ask_step turn.0 turn.1
+      ask_broken f e = ask_turn ∙ sym (ap (λ r. onward r λ q. first (record { about = s; question = q.0 }) (posed_at (length bs) bs q.1 i s)) e)
 
       pub ask_on :
-          (q : Question) (next : ℕ) → ◌≡◌ {A = Read Question} (Ok (q, next)) (posed_question_at bs at s.size) → at < next →
-          (ls' rs' : List ℕ) → ls' ≡ ls ++ line_to (record { about = s; question = q }) →
-          rs' ≡ rs ++ cond records (record_to (record { about = s; question = q })) [] → Running bs records next i s ls' rs' R
+          (q : Question) (next : ℕ) → ◌≡◌ {A = Read Question} (Ok (q, next)) (posed_question_at bs at s.size) →
+          posed_at (length bs) bs at i s ≡ first (record { about = s; question = q }) (posed_at (length bs) bs next i s)
       unfolding asked
-      ask_on q next g h ls' rs' a b =
-          record {
-            most = turn.0;
-            enough = let e = turn.1 in let n = inv.enough in omega arith;
-            counted = let n = inv.counted in omega arith;
-            rest =
-                ap₂ (λ x y. behind records x y (posed_at turn.0 bs next i s)) a b
-                ∙ posed_more records ls rs (record { about = s; question = q }) (posed_at turn.0 bs next i s)
-                ∙ ap (λ r. behind records ls rs (onward r λ p. onward (posed_at turn.0 bs p.1 i s) λ more. Ok (record { about = s; question = p.0 } ∷ more))) g
-                ∙ ask_step turn.0 turn.1;
-          }
+      ask_on q next e = ask_turn ∙ sym (ap (λ r. onward r λ p. first (record { about = s; question = p.0 }) (posed_at (length bs) bs p.1 i s)) e)
 
     -- An act.
     module _ (other : get_or bs at 0 ≡ 6 → ⊥) where
-      act_step : (k : ℕ) → inv.most ≡ suc k → behind records ls rs (acted k) ≡ R
-      act_step k e = ap (λ b. behind records ls rs (cond b (asked k) (acted k))) (sym (ne_eqb (get_or bs at 0) 6 other)) ∙ step k e
+      act_turn : posed_at (length bs) bs at i s ≡ acted (length bs) at i s
+      act_turn = one_turn ∙ cond-false (eqb (get_or bs at 0) 6) _ _ (ne_eqb (get_or bs at 0) 6 other)
 
-      pub act_broken : (f : Fault) → ◌≡◌ {A = Read State} (Err f) (performed_at bs at i s) → Err f ≡ R
+      pub act_broken : (f : Fault) → ◌≡◌ {A = Read State} (Err f) (performed_at bs at i s) → posed_at (length bs) bs at i s ≡ Err f
       unfolding acted
-      act_broken f g = ap (λ r. behind records ls rs (onward r λ t. posed_at turn.0 bs t.1 (i + 1) t.0)) g ∙ act_step turn.0 turn.1
+      act_broken f e = act_turn ∙ sym (ap (λ r. onward r λ t. posed_at (length bs) bs t.1 (i + 1) t.0) e)
 
-      pub act_on : (t : State) (next : ℕ) → ◌≡◌ {A = Read State} (Ok (t, next)) (performed_at bs at i s) → at < next → Running bs records next (i + 1) t ls rs R
+      pub act_on : (t : State) (next : ℕ) → ◌≡◌ {A = Read State} (Ok (t, next)) (performed_at bs at i s) → posed_at (length bs) bs at i s ≡ posed_at (length bs) bs next (i + 1) t
       unfolding acted
-      act_on t next g h =
-          record {
-            most = turn.0;
-            enough = let e = turn.1 in let n = inv.enough in omega arith;
-            counted = let n = inv.counted in omega arith;
-            rest =
-                ap (λ r. behind records ls rs (onward r λ u. posed_at turn.0 bs u.1 (i + 1) u.0)) g
-                ∙ act_step turn.0 turn.1;
-          }
+      act_on t next e = act_turn ∙ sym (ap (λ r. onward r λ u. posed_at (length bs) bs u.1 (i + 1) u.0) e)
 
 -- The whole input.
 module _ (bs : List ℕ) where

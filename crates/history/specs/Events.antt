@@ -1,9 +1,10 @@
 -- A history, as a chamber would tell it: acts and questions one after the other.
-use Rattle.std.specs.Prelude.{ℕ, ◌<◌, ◌≤◌, T, List, [], ◌∷◌, ◌++◌}
+use Rattle.std.specs.Prelude.{ℕ, ◌<◌, ◌≤◌, T, List, [], ◌∷◌}
+use Rattle.std.specs.List.{flat_map}
 use Rattle.model.specs.State.{State}
 use Rattle.model.specs.Rules.{applicable, applied}
 use Rattle.model.specs.declared.Rule.{Rule}
-use Rattle.codec.specs.declared.question.Question.{Question}
+use Rattle.model.specs.declared.Question.{Question}
 use Rattle.codec.specs.Acts.{act_bytes}
 use Rattle.codec.specs.Played.{InRange}
 use Rattle.history.specs.Posed.{Posed}
@@ -19,9 +20,8 @@ abbrev pub event_bytes : Event → List ℕ
 event_bytes (act a) = act_bytes a
 event_bytes (ask q) = question_bytes q
 
-unfoldable pub events_bytes : List Event → List ℕ
-events_bytes [] = []
-events_bytes (e ∷ more) = event_bytes e ++ events_bytes more
+abbrev pub events_bytes : List Event → List ℕ
+events_bytes es = flat_map event_bytes es
 
 -- An act that names what is there may be done, and makes no 256th vertex.
 pub record Doable (s : State) (a : Rule) : Type 0 where

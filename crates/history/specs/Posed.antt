@@ -3,7 +3,7 @@ use Rattle.std.specs.Prelude.{ℕ, zero, suc, ◌+◌, cond, List, [], ◌∷◌
 use Rattle.model.specs.State.{State}
 use Rattle.codec.specs.declared.fault.Fault.{Fault}
 use Rattle.codec.specs.declared.fault.Fault.TheVariants.{OutOfRange}
-use Rattle.codec.specs.declared.question.Question.{Question}
+use Rattle.model.specs.declared.Question.{Question}
 use Rattle.codec.specs.Reading.{Read, onward}
 use Rattle.codec.specs.Questions.{narrow_book_at, question_at}
 use Rattle.codec.specs.Replay.{performed_at}

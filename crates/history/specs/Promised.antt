@@ -1,5 +1,6 @@
 -- What the lines that are printed promise: each answer decides its question, for the state as it was then.
-use Rattle.std.specs.Prelude.{◌≡◌, ℕ, List, [], ◌∷◌, ◌++◌, Ok, slice_index_or}
+use Rattle.std.specs.Prelude.{◌≡◌, ℕ, List, ◌++◌, Ok, slice_index_or}
+use Rattle.std.specs.List.{All}
 use Rattle.model.specs.State.{State}
 use Rattle.codec.specs.Bookable.{Bookable}
 use Rattle.codec.specs.Writing.{book_bytes}
@@ -8,11 +9,6 @@ use Rattle.answers.specs.Records.{Shown}
 use Rattle.history.specs.Events.{Event, Goes, events_bytes, questions_in}
 use Rattle.history.specs.Posed.{Posed, posed}
 use Rattle.history.specs.Printed.{lines_to, records_to}
-
--- So it is of each of these.
-unfoldable pub EachPosed : (Posed → Type 0) → List Posed → Type 0
-EachPosed P [] = Unit {0}
-EachPosed P (p ∷ more) = P p × EachPosed P more
 
 -- The input is the book of some state, in the layout of at most 128 vertices, and a history that goes through; and these are its questions.
 pub record Told (input : List ℕ) (read : List Posed) : Type 0 where
@@ -35,7 +31,7 @@ pub record Promised (input output : List ℕ) : Type 0 where
   pub reads : posed input ≡ Ok read
   pub told : Told input read
   pub prints : output ≡ lines_to read
-  pub decided : EachPosed DecidedThen read
+  pub decided : All DecidedThen read
 
 pub record PromisedWith (input output records : List ℕ) : Type 0 where
   pub read : List Posed
@@ -43,5 +39,5 @@ pub record PromisedWith (input output records : List ℕ) : Type 0 where
   pub told : Told input read
   pub prints : output ≡ lines_to read
   pub writes : records ≡ records_to read
-  pub decided : EachPosed DecidedThen read
-  pub shown : EachPosed ShownThen read
+  pub decided : All DecidedThen read
+  pub shown : All ShownThen read

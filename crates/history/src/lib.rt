@@ -2,6 +2,6 @@
 #![tactic(auto)]
 
 mod ask;
-mod turn;
+mod reading;
 
 pub use ask::{answer_lines, answer_records};

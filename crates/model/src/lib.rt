@@ -20,6 +20,9 @@ pub const TAKE: Right = 0;
 
 pub const GRANT: Right = 1;
 
+// How many rights there are.
+pub const RIGHTS: Right = 8;
+
 // `who`, who may take from `from`, takes its right to `to`.
 #[derive(Clone, Copy, PartialEq, Eq, Debug)]
 pub struct Take {
@@ -61,4 +64,12 @@ pub enum Rule {
     Grant(Grant),
     Create(Create),
     Remove(Remove),
+}
+
+// Could `holder` come to have this right to `target`?
+#[derive(Clone, Copy, PartialEq, Eq, Debug)]
+pub struct Question {
+    pub holder: Vertex,
+    pub right: Right,
+    pub target: Vertex,
 }

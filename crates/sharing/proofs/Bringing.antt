@@ -1,6 +1,6 @@
 -- What an island brings, right by right.
 use Rattle.std.proofs.Common.{◌≡◌, ℕ, ◌+◌, ◌/◌, ◌%◌, Bool, true, false, ◌&&◌, ◌||◌, eqb, ltb, sym, refl, ap, ◌∙◌, inl, inr, arith}
-use Rattle.std.proofs.lemmas.Bool.{cases_eq, lt-ltb, le-ltb}
+use Rattle.std.proofs.lemmas.Bool.{cases_eq}
 use Rattle.std.proofs.lemmas.Bool.Decides.{nat_tests}
 use Rattle.model.specs.State.{State, grant_right}
 use Rattle.sharing.specs.Table.{held_by, spreads}
@@ -8,13 +8,6 @@ use Rattle.sharing.specs.Table.{held_by, spreads}
 module _ (s : State) (inner out : ℕ → Bool) (was : ℕ → ℕ → Bool) where
   abbrev pub Brought : (ℕ → ℕ → Bool) → ℕ → Type 0
   Brought cells r = (i x : ℕ) → cells i x ≡ (was i x || (ltb (i % 8) r && spreads s inner out i x))
-
-  pub brought_none : Brought was 0
-  brought_none i x = law (was i x) (ltb (i % 8) 0) (spreads s inner out i x) (le-ltb (i % 8) 0 (omega arith))
-    where
-      law : (a b c : Bool) → b ≡ false → a ≡ (a || (b && c))
-      law true b c e = refl
-      law false b c e = sym (ap (λ z. z && c) e)
 
   -- Who gets the right, put together.
   turned : (a b d : Bool) → ((a && b) && d) ≡ (a && (d && b))
@@ -44,6 +37,3 @@ module _ (s : State) (inner out : ℕ → Bool) (was : ℕ → ℕ → Bool) whe
 
       law : (k : ℕ) (a c n b : Bool) → c ≡ (a || (ltb k r && b)) → n ≡ (c || (eqb k r && b)) → n ≡ (a || (ltb k (r + 1) && b))
       law k a c n b p q = elim (cases_eq k r) [ inl d ↦ grind (arith, nat_tests) | inr d ↦ grind (arith, nat_tests) ]
-
-  pub brought_all : (cells : ℕ → ℕ → Bool) → Brought cells 8 → (i x : ℕ) → cells i x ≡ (was i x || spreads s inner out i x)
-  brought_all cells inv i x = inv i x ∙ ap (λ b. was i x || (b && spreads s inner out i x)) (lt-ltb (i % 8) 8 (omega arith))

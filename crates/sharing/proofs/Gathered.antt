@@ -6,7 +6,7 @@ use Rattle.std.proofs.lemmas.Bool.Decides.{nat_tests}
 use Rattle.model.specs.Bit.{bit}
 use Rattle.model.specs.State.{State, WellFormed}
 use Rattle.model.proofs.Tests.{both, parts, cases, left, right, same, from_true, SomeBoth, some_both, both_from}
-use Rattle.spans.proofs.Walk.{Without}
+use Rattle.bits.proofs.Walk.{Without}
 use Rattle.sharing.specs.Table.{held_by}
 use Rattle.sharing.proofs.Holding.{row_is}
 
@@ -59,19 +59,6 @@ Shared r targets who was cells rest =
     ((i x : ℕ) → cells i x ≡ (was i x || ((eqb (i % 8) r && (targets (i / 8) && not (rest (i / 8)))) && who x)))
 
 module _ (r : ℕ) (targets who : ℕ → Bool) (was : ℕ → ℕ → Bool) where
-  pub shared_none : Shared r targets who was was targets
-  shared_none = (λ y. twice (targets y), λ i x. nothing (was i x) (eqb (i % 8) r) (targets (i / 8)) (who x))
-    where
-      twice : (a : Bool) → (a && a) ≡ a
-      twice true = refl
-      twice false = refl
-
-      nothing : (a b c d : Bool) → a ≡ (a || ((b && (c && not c)) && d))
-      nothing true b c d = refl
-      nothing false true true d = refl
-      nothing false true false d = refl
-      nothing false false c d = refl
-
   one_row : (i v : ℕ) (w c n a t e e' : Bool) →
       c ≡ (w || ((eqb (i % 8) r && (t && not e)) && a)) → n ≡ (c || ((eqb (i % 8) r && eqb (i / 8) v) && a)) → e' ≡ (not (eqb (i / 8) v) && e) →
       (i / 8 ≡ v → (t ≡ true) × (e ≡ true)) → n ≡ (w || ((eqb (i % 8) r && (t && not e')) && a))
@@ -133,12 +120,6 @@ abbrev pub Words : ℕ → (ℕ → Bool) → (ℕ → Bool) → (ℕ → ℕ �
 Words r targets who was cells c = (i x : ℕ) → cells i x ≡ (was i x || ((eqb (i % 8) r && (ltb (i / 8 / 64) c && targets (i / 8))) && who x))
 
 module _ (r : ℕ) (targets who : ℕ → Bool) (was : ℕ → ℕ → Bool) where
-  pub words_none : Words r targets who was was 0
-  words_none i x = law (was i x) (eqb (i % 8) r) (ltb (i / 8 / 64) 0) (targets (i / 8)) (who x) (le-ltb (i / 8 / 64) 0 (omega arith))
-    where
-      law : (a b c d e : Bool) → c ≡ false → a ≡ (a || ((b && (c && d)) && e))
-      law a b c d e h = grind (arith, nat_tests)
-
   pub words_more :
       (cells next : ℕ → ℕ → Bool) (c w : ℕ) → ((j : ℕ) → j < 64 → bit w j ≡ targets (64 * c + j)) →
       ((i x : ℕ) → next i x ≡ (cells i x || ((eqb (i % 8) r && in_word c w (i / 8)) && who x))) → Words r targets who was cells c → Words r targets who was next (c + 1)

@@ -1,3 +1,3 @@
 pub mod Table
 pub mod Of
-pub mod Fronts
+pub mod Filling

@@ -2,7 +2,7 @@
 use crate::Sharing;
 use bits::VertexSet;
 use graph::Graph;
-use model::{GRANT, TAKE};
+use model::{GRANT, Question, TAKE};
 use std::test::Fail;
 
 const READ: u8 = 2;
@@ -21,17 +21,16 @@ fn made(size: u8, acting: &[u8], rights: &[[u8; 3]]) -> Option<Graph> {
 
 // Can x come to have r to y? None if the words are too few.
 fn asked(graph: &Graph, rows: &mut [u64], x: u8, r: u8, y: u8) -> Option<bool> {
-    match Sharing::of(graph, rows) {
-        Some(table) => Some(table.can_share(x, r, y)),
-        None => None,
-    }
+    let question = Question {
+        holder: x,
+        right: r,
+        target: y,
+    };
+    Sharing::of(graph, rows).map(|table| table.can_share(question))
 }
 
 fn counted(graph: &Graph, rows: &mut [u64], r: u8, y: u8) -> usize {
-    match Sharing::of(graph, rows) {
-        Some(table) => table.count(r, y),
-        None => 0,
-    }
+    Sharing::of(graph, rows).map_or(0, |table| table.count(r, y))
 }
 
 // Each vertex takes from the next, and the last reads the first.
@@ -65,18 +64,12 @@ fn full(size: u8) -> Option<Graph> {
 
 // How many can come to read the first vertex of a chain.
 fn readers(size: u8, acting: VertexSet) -> usize {
-    match chain(size, acting) {
-        Some(graph) => counted(&graph, &mut [7; 8192], READ, 0),
-        None => 0,
-    }
+    chain(size, acting).map_or(0, |graph| counted(&graph, &mut [7; 8192], READ, 0))
 }
 
 // How many can come to have r to y where each has each right to all but vertex 3.
 fn holders(size: u8, r: u8, y: u8) -> usize {
-    match full(size) {
-        Some(graph) => counted(&graph, &mut [7; 8192], r, y),
-        None => 0,
-    }
+    full(size).map_or(0, |graph| counted(&graph, &mut [7; 8192], r, y))
 }
 
 // All that acts comes to read what one does; where nobody acts, only one does.

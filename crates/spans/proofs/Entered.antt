@@ -2,12 +2,11 @@
 use Rattle.std.proofs.Common.{◌≡◌, ℕ, ◌+◌, ◌<◌, Bool, true, false, cond, not, ◌&&◌, ◌||◌, T, eqb, ltb, List, length, set, sym, refl, ap, ◌∙◌, inl, inr, arith}
 use Rattle.std.proofs.lemmas.Bool.{cases_eq, cases_lt, eq-eqb, lt-ltb, le-ltb}
 use Rattle.std.proofs.lemmas.Bool.Decides.{nat_tests}
-use Rattle.bits.specs.Sets.{holds}
-use Rattle.bits.specs.declared.set.VertexSet.{VertexSet}
+use Rattle.bits.specs.Sets.{holds, VertexSet}
 use Rattle.graph.specs.Table.{in_row}
 use Rattle.graph.proofs.Rows.{row_set}
 use Rattle.model.proofs.Tests.{is_false}
-use Rattle.spans.proofs.Walk.{Without}
+use Rattle.bits.proofs.Walk.{Without}
 
 abbrev pub Entered : (ℕ → ℕ → Bool) → (ℕ → Bool) → ℕ → (ℕ → ℕ → Bool) → (ℕ → Bool) → Type 0
 Entered was targets x sets rest =

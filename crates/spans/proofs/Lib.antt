@@ -1,10 +1,10 @@
+pub mod Resized
 pub mod Rounds
 pub mod Closing
 pub mod Wide
-pub mod Walk
 pub mod Entered
 pub mod Search
-pub mod Itself
-pub mod Unseen
+pub mod Fronts
+pub mod Searched
 pub mod Spanning
 pub mod Islands

@@ -1,5 +1,5 @@
 -- The search for a barrier: what was found belongs to it, and what was looked at is closed under single rights.
-use Rattle.std.proofs.Common.{◌≡◌, ℕ, Bool, false, ◌&&◌, ◌||◌, T, eqb, ◌⊎◌, sym, ap, ◌∙◌, subst, inl, inr, eqb→eq}
+use Rattle.std.proofs.Common.{◌≡◌, ℕ, ◌<◌, Bool, true, false, ◌&&◌, ◌||◌, T, eqb, ◌⊎◌, sym, ap, ◌∙◌, subst, inl, inr, eqb→eq}
 use lib.Dec.{eqb_refl}
 use Rattle.model.specs.State.{State, WellFormed, is_subject, take_right, grant_right}
 use Rattle.model.specs.Bounded.{only}
@@ -9,18 +9,7 @@ use Rattle.model.proofs.Tests.{both, parts, cases, left, right, same, eq_test}
 use Rattle.model.proofs.Readings.{subject_vertex}
 use Rattle.model.proofs.Right.{Closed}
 use Rattle.model.proofs.Least.{certificate_closed, certificate_out, certificate_into, inner_by_out}
-
-pub record Searching (s : State) (x : ℕ) (out into outDone intoDone : ℕ → Bool) : Type 0 where
-  pub out_sound : (p : ℕ) → T (out p) → T (out_of s (only x) p)
-  pub into_sound : (p : ℕ) → T (into p) → T (into_of s (only x) p)
-  pub holder : T (is_subject s x) → T (into x)
-  pub giver : (p : ℕ) → T (can_grant s p x) → T (into p)
-  pub out_takes : (p q : ℕ) → T (outDone p) → T (can_take s p q) → T (out q)
-  pub out_grants : (p q : ℕ) → T (outDone p) → T (can_grant s p q) → T (into q)
-  pub out_granted : (p q : ℕ) → T (outDone q) → T (can_grant s p q) → T (into p)
-  pub out_acts : (p : ℕ) → T (outDone p) → T (is_subject s p) → T (into p)
-  pub into_taken : (p q : ℕ) → T (intoDone q) → T (can_take s p q) → T (into p)
-  pub into_acts : (p : ℕ) → T (intoDone p) → T (is_subject s p) → T (out p)
+use Rattle.spans.specs.Searching.{Searching}
 
 abbrev pub None : (ℕ → Bool) → Type 0
 None f = (p : ℕ) → f p ≡ false
@@ -39,20 +28,20 @@ module _ (s : State) (wf : WellFormed s) (x : ℕ) where
   holding : T (is_subject s x) → T (into_of s (only x) x)
   holding a = (facts.vertex x (subject_vertex s x a)).holder_into a (eqb_refl x)
 
-  pub searching_none : (out into outDone intoDone : ℕ → Bool) → None out → None outDone → None intoDone →
-      ((p : ℕ) → into p ≡ ((eqb p x && is_subject s x) || can_grant s p x)) → Searching s x out into outDone intoDone
-  searching_none out into outDone intoDone a b c e =
+  pub searching_none : (out into outSeen intoSeen : ℕ → Bool) → None out → None outSeen → None intoSeen →
+      ((p : ℕ) → into p ≡ ((eqb p x && is_subject s x) || can_grant s p x)) → Searching s x out into outSeen intoSeen
+  searching_none out into outSeen intoSeen a b c e =
       record {
         out_sound = λ p t. absurd (none out a p t);
         into_sound = λ p t. first p (cases (eqb p x && is_subject s x) _ (subst T (e p) t));
         holder = λ h. subst T (sym (e x)) (left (eqb x x && is_subject s x) _ (both (eqb x x) _ (eqb_refl x) h));
         giver = λ p t. subst T (sym (e p)) (right (eqb p x && is_subject s x) _ t);
-        out_takes = λ p q t. absurd (none outDone b p t);
-        out_grants = λ p q t. absurd (none outDone b p t);
-        out_granted = λ p q t. absurd (none outDone b q t);
-        out_acts = λ p t. absurd (none outDone b p t);
-        into_taken = λ p q t. absurd (none intoDone c q t);
-        into_acts = λ p t. absurd (none intoDone c p t);
+        out_takes = λ p q t. absurd (none outSeen b p t);
+        out_grants = λ p q t. absurd (none outSeen b p t);
+        out_granted = λ p q t. absurd (none outSeen b q t);
+        out_acts = λ p t. absurd (none outSeen b p t);
+        into_taken = λ p q t. absurd (none intoSeen c q t);
+        into_acts = λ p t. absurd (none intoSeen c p t);
       }
     where
       first : (p : ℕ) → T (eqb p x && is_subject s x) ⊎ T (can_grant s p x) → T (into_of s (only x) p)
@@ -91,13 +80,13 @@ module _ (s : State) (wf : WellFormed s) (x : ℕ) where
       let f = facts.vertex p (subject_vertex s p u.1) in
       subst (λ z. T (out_of s (only x) z)) (sym (eqb→eq q p u.0)) (f.inner_out (f.into_inner u.1 i))
 
-  module _ (out into outDone intoDone : ℕ → Bool) (inv : Searching s x out into outDone intoDone) (p : ℕ) where
+  module _ (out into outSeen intoSeen : ℕ → Bool) (inv : Searching s x out into outSeen intoSeen) (p : ℕ) where
     -- One of O looked at.
-    pub searching_out : (out' into' outDone' : ℕ → Bool) → T (out p) →
+    pub searching_out : (out' into' outSeen' intoSeen' : ℕ → Bool) → T (out p) →
         ((k : ℕ) → out' k ≡ (out k || can_take s p k)) →
         ((k : ℕ) → into' k ≡ (into k || (can_grant s p k || ((eqb k p && is_subject s p) || can_grant s k p)))) →
-        ((k : ℕ) → outDone' k ≡ (eqb k p || outDone k)) → Searching s x out' into' outDone' intoDone
-    searching_out out' into' outDone' o a b d =
+        ((k : ℕ) → outSeen' k ≡ (eqb k p || outSeen k)) → ((k : ℕ) → intoSeen' k ≡ intoSeen k) → Searching s x out' into' outSeen' intoSeen'
+    searching_out out' into' outSeen' intoSeen' o a b d e =
         record {
           out_sound = λ k t. elim (cases (out k) _ (subst T (a k) t)) [ inl u ↦ inv.out_sound k u | inr u ↦ taken p k (inv.out_sound p o) u ];
           into_sound = λ k t. elim (cases (into k) _ (subst T (b k) t)) [ inl u ↦ inv.into_sound k u | inr u ↦ beside p k (inv.out_sound p o) u ];
@@ -113,8 +102,8 @@ module _ (s : State) (wf : WellFormed s) (x : ℕ) where
             | inl e ↦ new_into k (right (can_grant s p k) _ (left (eqb k p && is_subject s p) _ (both (eqb k p) _ (eq_test k p e) (subst (λ z. T (is_subject s z)) e u))))
             | inr w ↦ more_into k (inv.out_acts k w u)
           ];
-          into_taken = λ k q t u. more_into k (inv.into_taken k q t u);
-          into_acts = λ k t u. more_out k (inv.into_acts k t u);
+          into_taken = λ k q t u. more_into k (inv.into_taken k q (subst T (e q) t) u);
+          into_acts = λ k t u. more_out k (inv.into_acts k (subst T (e k) t) u);
         }
       where
         more_out : (k : ℕ) → T (out k) → T (out' k)
@@ -129,43 +118,43 @@ module _ (s : State) (wf : WellFormed s) (x : ℕ) where
         new_into : (k : ℕ) → T (can_grant s p k || ((eqb k p && is_subject s p) || can_grant s k p)) → T (into' k)
         new_into k t = subst T (sym (b k)) (right (into k) _ t)
 
-        which : (k : ℕ) → T (outDone' k) → (k ≡ p) ⊎ T (outDone k)
+        which : (k : ℕ) → T (outSeen' k) → (k ≡ p) ⊎ T (outSeen k)
         which k t = elim (cases (eqb k p) _ (subst T (d k) t)) [ inl e ↦ inl (eqb→eq k p e) | inr u ↦ inr u ]
 
     -- One of I looked at.
-    pub searching_into : (out' into' intoDone' : ℕ → Bool) → T (into p) →
-        ((k : ℕ) → out' k ≡ ((eqb k p && is_subject s p) || out k)) →
+    pub searching_into : (out' into' outSeen' intoSeen' : ℕ → Bool) → T (into p) →
+        ((k : ℕ) → out' k ≡ (out k || (eqb k p && is_subject s p))) →
         ((k : ℕ) → into' k ≡ (into k || can_take s k p)) →
-        ((k : ℕ) → intoDone' k ≡ (eqb k p || intoDone k)) → Searching s x out' into' outDone intoDone'
-    searching_into out' into' intoDone' i a b d =
+        ((k : ℕ) → outSeen' k ≡ outSeen k) → ((k : ℕ) → intoSeen' k ≡ (eqb k p || intoSeen k)) → Searching s x out' into' outSeen' intoSeen'
+    searching_into out' into' outSeen' intoSeen' i a b e d =
         record {
-          out_sound = λ k t. elim (cases (eqb k p && is_subject s p) _ (subst T (a k) t)) [ inl u ↦ acting p k (inv.into_sound p i) u | inr u ↦ inv.out_sound k u ];
+          out_sound = λ k t. elim (cases (out k) _ (subst T (a k) t)) [ inl u ↦ inv.out_sound k u | inr u ↦ acting p k (inv.into_sound p i) u ];
           into_sound = λ k t. elim (cases (into k) _ (subst T (b k) t)) [ inl u ↦ inv.into_sound k u | inr u ↦ taking k p (inv.into_sound p i) u ];
           holder = λ h. more_into x (inv.holder h);
           giver = λ k t. more_into k (inv.giver k t);
-          out_takes = λ k q t u. more_out q (inv.out_takes k q t u);
-          out_grants = λ k q t u. more_into q (inv.out_grants k q t u);
-          out_granted = λ k q t u. more_into k (inv.out_granted k q t u);
-          out_acts = λ k t u. more_into k (inv.out_acts k t u);
-          into_taken = λ k q t u. elim (which q t) [ inl e ↦ subst T (sym (b k)) (right (into k) _ (subst (λ z. T (can_take s k z)) e u)) | inr w ↦ more_into k (inv.into_taken k q w u) ];
+          out_takes = λ k q t u. more_out q (inv.out_takes k q (subst T (e k) t) u);
+          out_grants = λ k q t u. more_into q (inv.out_grants k q (subst T (e k) t) u);
+          out_granted = λ k q t u. more_into k (inv.out_granted k q (subst T (e q) t) u);
+          out_acts = λ k t u. more_into k (inv.out_acts k (subst T (e k) t) u);
+          into_taken = λ k q t u. elim (which q t) [ inl f ↦ subst T (sym (b k)) (right (into k) _ (subst (λ z. T (can_take s k z)) f u)) | inr w ↦ more_into k (inv.into_taken k q w u) ];
           into_acts = λ k t u. elim (which k t) [
-            | inl e ↦ subst T (sym (a k)) (left (eqb k p && is_subject s p) _ (both (eqb k p) _ (eq_test k p e) (subst (λ z. T (is_subject s z)) e u)))
+            | inl f ↦ subst T (sym (a k)) (right (out k) _ (both (eqb k p) _ (eq_test k p f) (subst (λ z. T (is_subject s z)) f u)))
             | inr w ↦ more_out k (inv.into_acts k w u)
           ];
         }
       where
         more_out : (k : ℕ) → T (out k) → T (out' k)
-        more_out k t = subst T (sym (a k)) (right (eqb k p && is_subject s p) _ t)
+        more_out k t = subst T (sym (a k)) (left (out k) _ t)
 
         more_into : (k : ℕ) → T (into k) → T (into' k)
         more_into k t = subst T (sym (b k)) (left (into k) _ t)
 
-        which : (k : ℕ) → T (intoDone' k) → (k ≡ p) ⊎ T (intoDone k)
+        which : (k : ℕ) → T (intoSeen' k) → (k ≡ p) ⊎ T (intoSeen k)
         which k t = elim (cases (eqb k p) _ (subst T (d k) t)) [ inl e ↦ inl (eqb→eq k p e) | inr u ↦ inr u ]
 
   -- Where all was looked at, the sets are those of the least barrier.
-  module _ (out into outDone intoDone : ℕ → Bool) (inv : Searching s x out into outDone intoDone)
-      (all-out : (p : ℕ) → T (out p) → T (outDone p)) (all-into : (p : ℕ) → T (into p) → T (intoDone p)) where
+  module _ (out into outSeen intoSeen : ℕ → Bool) (inv : Searching s x out into outSeen intoSeen)
+      (all-out : (p : ℕ) → T (out p) → T (outSeen p)) (all-into : (p : ℕ) → T (into p) → T (intoSeen p)) where
     closed : Closed s (only x) (record { inner = λ p. is_subject s p && out p; out = out; into = into })
     closed =
         record {
@@ -196,3 +185,15 @@ module _ (s : State) (wf : WellFormed s) (x : ℕ) where
 
     pub found_inner : (p : ℕ) → (is_subject s p && out p) ≡ inner_of s (only x) p
     found_inner p = ap (λ b. is_subject s p && b) (found_out p) ∙ sym (inner_by_out s wf (only x) p)
+
+  -- Every vertex was reached.
+  pub found_all : (out into outSeen intoSeen : ℕ → Bool) → Searching s x out into outSeen intoSeen → ((k : ℕ) → k < s.size → T (out k)) → (k : ℕ) → out k ≡ out_of s (only x) k
+  found_all out into outSeen intoSeen inv full k = same _ _ (inv.out_sound k) (certificate_out s wf (only x) _ closed k)
+    where
+      closed : Closed s (only x) (record { inner = is_subject s; out = out; into = λ p. true })
+      closed =
+          record {
+            vertex = λ p l.
+                record { acts = λ j. j; inner_out = λ j. full p l; inner_into = λ j. tt; out_inner = λ a o. a; into_inner = λ a i. a; holder_into = λ a e. tt };
+            right = λ p q l m. record { out_takes = λ t o. full q m; into_taken = λ t i. tt; out_grants = λ g o. tt; out_granted = λ g o. tt; giver_into = λ g e. tt };
+          }

@@ -1,2 +1,5 @@
 pub mod Paths
+pub mod Sets
+pub mod Fronts
+pub mod Searching
 pub mod Of

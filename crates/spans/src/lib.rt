@@ -3,6 +3,7 @@
 
 mod barrier;
 mod closure;
+mod front;
 mod links;
 mod paths;
 mod rows;
@@ -10,7 +11,7 @@ mod turned;
 
 pub use barrier::Barrier;
 pub use closure::lead;
-pub use links::Links;
+pub use links::{Links, WideLinks};
 pub use paths::TakePaths;
 pub use rows::width;
-pub use turned::holders;
+pub use turned::{SETS, holders};

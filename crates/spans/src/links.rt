@@ -2,20 +2,27 @@
 mod query;
 mod search;
 
-ghost use Rattle.std.specs.Prelude.{◌≡◌, ℕ};
+ghost use Rattle.std.specs.Prelude.{◌≡◌, ℕ, ◌*◌, ◌≤◌, length};
 ghost use Rattle.graph.specs.Graphs.{state};
-ghost use Rattle.graph.specs.Table.{in_row};
+ghost use Rattle.spans.specs.Sets.{in_sets};
 
 use crate::turned::SETS;
-use bits::VertexSet;
+use bits::BitSet;
 use graph::Graph;
 
+// In sets of W words, which have room for each vertex.
 #[derive(Drop)]
-pub struct Links<'a> {
+pub struct WideLinks<'a, const W: usize> {
     graph: &'a Graph,
     // Who has take to a vertex, and who has grant to it.
-    takers: [VertexSet; SETS],
-    granters: [VertexSet; SETS],
-    ghost taken: { (y k : ℕ) → in_row takers y k ≡ (state graph.now).has k 0 y },
-    ghost granted: { (y k : ℕ) → in_row granters y k ≡ (state graph.now).has k 1 y },
+    takers: [BitSet<W>; SETS],
+    granters: [BitSet<W>; SETS],
+    ghost all: { (length takers ≡ 256) × (length granters ≡ 256) },
+    ghost wide: { (state graph.now).size ≤ 64 * W },
+    ghost narrow: { W ≤ 4 },
+    ghost taken: { (y k : ℕ) → in_sets takers y k ≡ (state graph.now).has k 0 y },
+    ghost granted: { (y k : ℕ) → in_sets granters y k ≡ (state graph.now).has k 1 y },
 }
+
+// For any graph.
+pub type Links<'a> = WideLinks<'a, 4>;

@@ -1,4 +1,4 @@
-use codec::{ReplayError, replay};
+use codec::{InputError, replay};
 use std::alloc::{AllocError, Global};
 use std::process::Abort;
 use std::test::Fail;
@@ -46,12 +46,12 @@ fn refused(
     place: usize,
 ) -> Result<(), Fail> {
     match replay(heap, input) {
-        Err(ReplayError::Input(fault)) => {
+        Err(InputError::Input(fault)) => {
             assert!(rt; fault.number() == number);
             assert!(rt; fault.place() == place);
             Ok(())
         }
-        Err(ReplayError::NoMemory) => Err(Fail::new("no memory")),
+        Err(InputError::NoMemory) => Err(Fail::new("no memory")),
         Ok(_) => Err(Fail::new("not refused")),
     }
 }

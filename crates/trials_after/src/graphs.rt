@@ -1,8 +1,8 @@
 // Rules applied to changing graphs, and questions in between.
 use bits::VertexSet;
-use changing::{ChangingGraph, Renewal};
-use graph::{Graph, Outcome, Refusal};
-use model::{Create, GRANT, Grant, Remove, Rule, TAKE, Take};
+use changing::ChangingGraph;
+use graph::{Graph, Refusal};
+use model::{Create, GRANT, Grant, Question, Remove, Rule, TAKE, Take};
 use sharing::Sharing;
 use std::process::Abort;
 use std::test::Fail;
@@ -43,11 +43,20 @@ fn remove(who: u8, right: u8, to: u8) -> Rule {
     Rule::Remove(Remove { who, right, to })
 }
 
+fn question(holder: u8, right: u8, target: u8) -> Question {
+    Question {
+        holder,
+        right,
+        target,
+    }
+}
+
 // Does the book answer of x as the table does?
 fn same_of(book: &ChangingGraph, table: &Sharing, x: u8, n: u8) -> bool {
     for y in 0..n {
         for r in 0..8 {
-            if book.can_share(x, r, y) != table.can_share(x, r, y) {
+            let q = question(x, r, y);
+            if book.can_share(q) != table.can_share(q) {
                 return false;
             }
         }
@@ -71,11 +80,13 @@ fn as_anew(book: &ChangingGraph) -> bool {
 }
 
 // The rule is done, and these rows are worked out anew.
-fn renews(rt: &impl Abort, renewal: Renewal, rows: &[u8]) {
-    assert!(rt; matches!(renewal.outcome, Outcome::Done));
-    assert!(rt; renewal.rows.count() == rows.len());
+fn renews(rt: &impl Abort, renewed: Result<VertexSet, Refusal>, rows: &[u8]) {
+    let Ok(set) = renewed else {
+        panic!(rt; "refused");
+    };
+    assert!(rt; set.count() == rows.len());
     for v in rows {
-        assert!(rt; renewal.rows.contains(*v));
+        assert!(rt; set.contains(*v));
     }
 }
 
@@ -96,7 +107,7 @@ fn a_chain_of_acts(rt: HostRuntime) -> Result<(), Fail> {
     ) else {
         return Err(Fail::new("no graph"));
     };
-    assert!(rt; book.can_share(0, READ, 5) && as_anew(&book));
+    assert!(rt; book.can_share(question(0, READ, 5)) && as_anew(&book));
     // A path from 0 to 3 was there, but not the right.
     renews(&rt, book.apply(take(0, 1, TAKE, 3)), &[0]);
     assert!(rt; as_anew(&book));
@@ -104,7 +115,7 @@ fn a_chain_of_acts(rt: HostRuntime) -> Result<(), Fail> {
     renews(&rt, book.apply(remove(1, TAKE, 3)), &[0, 1]);
     assert!(rt; as_anew(&book));
     renews(&rt, book.apply(grant(2, 1, TAKE, 4)), &[0, 1]);
-    assert!(rt; as_anew(&book) && book.can_share(1, READ, 5));
+    assert!(rt; as_anew(&book) && book.can_share(question(1, READ, 5)));
     renews(&rt, book.apply(take(2, 4, READ, 5)), &[]);
     renews(&rt, book.apply(grant(2, 1, READ, 5)), &[]);
     assert!(rt; as_anew(&book));
@@ -128,9 +139,9 @@ fn a_cycle_cut_open(rt: HostRuntime) -> Result<(), Fail> {
         return Err(Fail::new("no graph"));
     };
     renews(&rt, book.apply(remove(1, TAKE, 2)), &[0, 1, 2]);
-    assert!(rt; book.can_share(0, READ, 4) && as_anew(&book));
+    assert!(rt; book.can_share(question(0, READ, 4)) && as_anew(&book));
     renews(&rt, book.apply(remove(2, TAKE, 0)), &[2]);
-    assert!(rt; !book.can_share(0, READ, 4) && book.can_share(2, READ, 4));
+    assert!(rt; !book.can_share(question(0, READ, 4)) && book.can_share(question(2, READ, 4)));
     assert!(rt; as_anew(&book));
     renews(&rt, book.apply(remove(2, TAKE, 0)), &[]);
     assert!(rt; as_anew(&book));
@@ -149,21 +160,21 @@ fn what_is_made_acts(rt: HostRuntime) -> Result<(), Fail> {
         rights: 3,
     });
     renews(&rt, book.apply(child), &[0, 2]);
-    assert!(rt; book.can_share(2, READ, 1) && as_anew(&book));
+    assert!(rt; book.can_share(question(2, READ, 1)) && as_anew(&book));
     let cabinet = Rule::Create(Create {
         who: 2,
         subject: false,
         rights: 1,
     });
     renews(&rt, book.apply(cabinet), &[0, 2, 3]);
-    assert!(rt; as_anew(&book) && !book.can_share(3, READ, 1));
+    assert!(rt; as_anew(&book) && !book.can_share(question(3, READ, 1)));
     let hidden = Rule::Create(Create {
         who: 0,
         subject: true,
         rights: 4,
     });
     renews(&rt, book.apply(hidden), &[4]);
-    assert!(rt; as_anew(&book) && !book.can_share(4, READ, 1));
+    assert!(rt; as_anew(&book) && !book.can_share(question(4, READ, 1)));
     renews(&rt, book.apply(take(0, 2, TAKE, 3)), &[0]);
     renews(&rt, book.apply(grant(0, 2, READ, 1)), &[]);
     assert!(rt; as_anew(&book));
@@ -176,11 +187,8 @@ fn refusals_change_nothing(rt: HostRuntime) -> Result<(), Fail> {
     let Some(mut book) = made(3, &[0], &[[0, TAKE, 1], [1, READ, 2]]) else {
         return Err(Fail::new("no graph"));
     };
-    let renewal = book.apply(take(0, 1, TAKE, 2));
-    assert!(rt; matches!(renewal.outcome, Outcome::Refused(Refusal::NotApplicable)));
-    assert!(rt; renewal.rows.is_empty());
-    let renewal = book.apply(remove(1, READ, 2));
-    assert!(rt; matches!(renewal.outcome, Outcome::Refused(Refusal::NotApplicable)));
-    assert!(rt; renewal.rows.is_empty() && as_anew(&book) && book.can_share(0, READ, 2));
+    assert!(rt; book.apply(take(0, 1, TAKE, 2)) == Err(Refusal::NotApplicable));
+    assert!(rt; book.apply(remove(1, READ, 2)) == Err(Refusal::NotApplicable));
+    assert!(rt; as_anew(&book) && book.can_share(question(0, READ, 2)));
     Ok(())
 }

@@ -1,5 +1,5 @@
 // Inputs of a book, acts and questions.
-use answers::AskError;
+use codec::InputError;
 use history::{answer_lines, answer_records};
 use std::alloc::{AllocError, Global};
 use std::process::Abort;
@@ -35,7 +35,7 @@ fn refused(
     place: usize,
 ) -> Result<(), Fail> {
     match answer_lines(heap, input) {
-        Err(AskError::Input(fault)) => {
+        Err(InputError::Input(fault)) => {
             assert!(rt; fault.number() == number && fault.place() == place);
             Ok(())
         }

@@ -1,16 +1,17 @@
 -- One more act of a plan: done and written, or halted.
-use Rattle.std.proofs.Common.{◌≡◌, ℕ, ◌+◌, ◌-◌, ◌<◌, ◌≤◌, Bool, true, false, cond, T, List, [], ◌∷◌, ◌++◌, length, take, drop, sym, refl, ap, ◌∙◌, subst, ap₂, append_assoc, append-nil, arith, length-append, length-drop}
+use Rattle.std.proofs.Common.{◌≡◌, ℕ, ◌+◌, ◌-◌, ◌<◌, ◌≤◌, Bool, true, false, cond, T, Ok, Err, List, [], ◌∷◌, ◌++◌, length, take, drop, sym, ap, ◌∙◌, subst, ap₂, append_assoc, append-nil, arith, length-append, length-drop}
 use borrow.Rule.Slice.PartMut.{put_mid}
 use Rattle.std.proofs.lemmas.List.{take_at, drop_at, drop-drop, take_all, drop_all, length-take-le}
 use Rattle.model.specs.State.{State}
 use Rattle.model.specs.Rules.{applied}
 use Rattle.model.specs.Exact.{Work, doing, taking, taking_unless_held}
 use Rattle.model.specs.declared.Rule.{Rule}
-use Rattle.graph.specs.Graphs.{state, answer, is_done}
-use Rattle.graph.specs.declared.outcome.Outcome.{Outcome}
-use Rattle.graph.specs.declared.outcome.Outcome.TheVariants.{Done, Refused}
+use Rattle.std.specs.Result.{is_ok}
+use Rattle.graph.specs.Graphs.{state, answer}
+use Rattle.graph.specs.declared.refusal.Refusal.{Refusal}
 use Rattle.codec.specs.Acts.{act_bytes}
 use Rattle.witness.specs.declared.plan.Plan.{Plan}
+use Rattle.witness.specs.Of.{routed}
 use Rattle.witness.specs.Plans.{acts_bytes, At, Halted}
 use Rattle.witness.proofs.Going.{acts_more, done_more}
 use Rattle.witness.proofs.Performed.{performed_last, performed_more}
@@ -48,15 +49,16 @@ module _ (b : State) (w : Work) (plan : Plan) (was out : List ℕ) (a : Rule) (a
   more_bytes = ap length (acts_more w.rules a) ∙ length-append (acts_bytes w.rules) (act_bytes a) ∙ ap (λ m. m + length (act_bytes a)) (sym at.bytes)
 
   pub acted :
-      (next : Plan) (n k : ℕ) (free : List ℕ) → Done ≡ answer (state plan.graph) a → state next.graph ≡ applied (state plan.graph) a → next.used ≡ plan.used + n → next.acts ≡ plan.acts + 1 →
+      (next : Plan) (n k : ℕ) (free : List ℕ) → next.routes ≡ plan.routes → Ok tt ≡ answer (state plan.graph) a → state next.graph ≡ applied (state plan.graph) a → next.used ≡ plan.used + n → next.acts ≡ plan.acts + 1 →
       n ≡ length (act_bytes a) → k ≡ length out - plan.used → free ≡ act_bytes a ++ drop n (take k (drop plan.used out)) →
       At b (doing a w) next was (put_mid plan.used k out free)
-  acted next n k free d g u c e l f =
+  acted next n k free o d g u c e l f =
       record {
+        about = ap (λ z. routed z.now) o ∙ at.about;
         here = g ∙ ap (λ s. applied s a) at.here;
         reached = ap (λ s. applied s a) at.reached ∙ sym (done_more b w.rules a);
         performed =
-            performed_more b w.rules a at.performed (subst (λ o. T (is_done o)) (d ∙ ap (λ s. answer s a) (at.here ∙ at.reached)) tt);
+            performed_more b w.rules a at.performed (subst (λ o. T (is_ok o)) (d ∙ ap (λ s. answer s a) (at.here ∙ at.reached)) tt);
         bytes = u ∙ ap (λ m. plan.used + m) e ∙ sym more_bytes;
         count = c ∙ ap (λ m. m + 1) at.count ∙ sym (length-append w.rules (a ∷ []));
         written =
@@ -71,12 +73,8 @@ module _ (b : State) (w : Work) (plan : Plan) (was out : List ℕ) (a : Rule) (a
   no_space k l h t room =
       let free = length-take-le k (drop plan.used out) (let d = length-drop plan.used out in omega arith) in omega (arith, more_bytes, whole b w plan was out at)
 
-  pub refused : (o : Outcome) → o ≡ answer (state plan.graph) a → (o ≡ Done → ⊥) → Halted b (length was) (doing a w)
-  refused o e undone t room = undone (is_done-law o (subst T (ap (λ s. is_done (answer s a)) (sym (at.here ∙ at.reached)) ∙ ap is_done (sym e)) (performed_last b w.rules a t)))
-    where
-      is_done-law : (o : Outcome) → T (is_done o) → o ≡ Done
-      is_done-law Done h = refl
-      is_done-law (Refused r) h = absurd h
+  pub refused : (r : Refusal) → Err r ≡ answer (state plan.graph) a → Halted b (length was) (doing a w)
+  refused r e t room = subst T (ap (λ s. is_ok (answer s a)) (sym (at.here ∙ at.reached)) ∙ ap is_ok (sym e)) (performed_last b w.rules a t)
 
 -- A take that brings nothing new is left out.
 module _ (b : State) (w : Work) (plan : Plan) (was out : List ℕ) (at : At b w plan was out) (p y r z : ℕ) where

@@ -1,16 +1,11 @@
 -- Bridges from sets: take paths either way, and those that meet at a grant.
-use Rattle.std.proofs.Common.{◌≡◌, ℕ, ◌+◌, ◌<◌, ◌≤◌, Bool, true, false, ◌&&◌, ◌||◌, T, eqb, ltb, List, length, set, sym, refl, ap, ◌∙◌, ap₂, inl, inr, arith, lt→ltb}
+use Rattle.std.proofs.Common.{◌≡◌, ℕ, ◌<◌, ◌≤◌, Bool, true, false, ◌&&◌, ◌||◌, T, sym, refl, ap, ◌∙◌, ap₂, inl, inr, lt→ltb}
 use mathlib.Core.Path.{fun_ext}
-use Rattle.std.proofs.lemmas.Bool.{cases_eq, cases_lt, cases_Bool, lt-ltb, le-ltb, eq-eqb, ne_eqb, cond-true, cond-false}
-use Rattle.std.proofs.lemmas.Bool.Decides.{nat_tests}
-use Rattle.bits.specs.Sets.{holds}
-use Rattle.bits.specs.declared.set.VertexSet.{VertexSet}
-use Rattle.graph.specs.Table.{in_row}
-use Rattle.graph.proofs.Rows.{row_set}
+use Rattle.std.proofs.lemmas.Bool.{cases_Bool}
 use Rattle.model.specs.State.{State, WellFormed, is_vertex, is_subject, grant_right}
 use Rattle.model.specs.Bounded.{some_below}
 use Rattle.model.specs.Spans.{can_grant, take_path, meet, bridge}
-use Rattle.model.proofs.Tests.{both, parts, cases, same, is_false, from_true, some_both, both_from}
+use Rattle.model.proofs.Tests.{both, parts, cases, same, from_true, some_both, both_from}
 use Rattle.model.proofs.Readings.{subject_vertex}
 use Rattle.spans.specs.Paths.{path_from}
 use Rattle.witness.proofs.Gathered.{some_narrow}
@@ -110,27 +105,3 @@ module _ (s : State) where
   pub no_bridge : (p : ℕ) → is_subject s p ≡ false → (q : ℕ) → false ≡ bridge s p q
   unfolding bridge
   no_bridge p a q = sym (ap (λ b. b && (is_subject s q && (take_path s p q || (take_path s q p || meet s p q)))) a)
-
--- A table of rows, of which those below i are written and the others are empty.
-abbrev pub Filled : (ℕ → ℕ → Bool) → (ℕ → ℕ → Bool) → ℕ → Type 0
-Filled e rows i = (p q : ℕ) → rows p q ≡ (ltb p i && e p q)
-
-module _ (e : ℕ → ℕ → Bool) where
-  pub filled_none : (rows : ℕ → ℕ → Bool) → ((p q : ℕ) → rows p q ≡ false) → Filled e rows 0
-  filled_none rows none p q = let a = none p q in grind (arith, nat_tests)
-
-  pub filled_more : (rows : List VertexSet) (i : ℕ) (v : VertexSet) → i < length rows → ((q : ℕ) → holds v q ≡ e i q) → Filled e (in_row rows) i →
-      Filled e (in_row (set rows i v)) (i + 1)
-  filled_more rows i v l f inv p q =
-      row_set rows i v l p q ∙ elim (cases_eq p i) [
-        | inl d ↦ cond-true (eqb p i) _ _ (eq-eqb p i d) ∙ f q ∙ ap (λ z. e z q) (sym d) ∙ ap (λ b. b && e p q) (sym (lt-ltb p (i + 1) (omega arith)))
-        | inr d ↦
-            cond-false (eqb p i) _ _ (ne_eqb p i d) ∙ inv p q ∙ let w : ltb p i ≡ ltb p (i + 1) = grind (arith, nat_tests) in ap (λ b. b && e p q) w
-      ]
-
-  pub filled_all : (rows : ℕ → ℕ → Bool) (n : ℕ) → ((p q : ℕ) → T (e p q) → p < n) → Filled e rows n → (p q : ℕ) → rows p q ≡ e p q
-  filled_all rows n bound inv p q =
-      elim (cases_lt p n) [
-        | inl h ↦ inv p q ∙ ap (λ b. b && e p q) (lt-ltb p n h)
-        | inr h ↦ inv p q ∙ ap (λ b. b && e p q) (le-ltb p n h) ∙ sym (is_false (e p q) (λ t. let l = bound p q t in omega arith))
-      ]

@@ -41,10 +41,9 @@ module _ (s : State) (wf : WellFormed s) where
   pub on_path : (p : ℕ) (f : ℕ → Bool) → lowest s.size (λ u. path_from s p u && f u) ≡ lowest s.size (λ u. take_path s p u && f u)
   on_path p f = lowest_same s.size _ _ (λ u l. ap (λ b. b && f u) (path_below s wf p u l))
 
-  pub near_is : (p q : ℕ) → lowest s.size (λ u. path_from s p u && beside_some s (path_from s q) u) ≡ near_end s p q
+  pub near_is : (p q : ℕ) → lowest s.size (λ u. take_path s p u && beside_some s (path_from s q) u) ≡ near_end s p q
   unfolding beside_some
-  near_is p q =
-      on_path p (beside_some s (path_from s q)) ∙ lowest_same s.size _ _ (λ u _. ap (λ b. take_path s p u && b) (meets u))
+  near_is p q = lowest_same s.size _ _ (λ u _. ap (λ b. take_path s p u && b) (meets u))
     where
       meets : (u : ℕ) → beside_some s (path_from s q) u ≡ some_below s.size (meeting s q u)
       meets u =

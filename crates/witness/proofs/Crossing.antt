@@ -5,7 +5,7 @@ use Rattle.model.specs.State.{State, grant_right}
 use Rattle.model.specs.Spans.{take_path, can_grant}
 use Rattle.model.specs.Exact.{Work, doing, granting, creating, taking_to, taking_unless_held, shortest_path, fetched, left, passed, asked, near_end, far_end, over_bridge, over_row, last_holder, handed_to}
 use Rattle.witness.specs.declared.plan.Plan.{Plan}
-use Rattle.witness.specs.Plans.{At, Halted}
+use Rattle.witness.specs.Plans.{At, Halted, given}
 use Rattle.witness.proofs.Going.{Grows, grows_not, grows_doing, halted_on}
 use Rattle.witness.proofs.Along.{grows_either, grows_held, grows_along}
 
@@ -13,23 +13,11 @@ module _ (s : State) where
   pub grows_to : (v w : Work) (p y r z : ℕ) → Grows v w → Grows v (taking_to s p y r z w)
   grows_to v w p y r z g = grows_along v w p p (shortest_path s p y) r z g
 
-  -- The ends of the four ways, from each place on.
-  pub left_taken : (v w : Work) (p q c r y : ℕ) → Grows v w → Grows v (taking_unless_held q c r y (doing (granting p c r y) w))
-  left_taken v w p q c r y g = grows_held v (doing (granting p c r y) w) q c r y (grows_doing v w (granting p c r y) g)
+  pub grows_given : (v w : Work) (p u c r y : ℕ) → Grows v w → Grows v (given s p u c r y w)
+  grows_given v w p u c r y g = grows_doing v (taking_to s p u grant_right c w) (granting p c r y) (grows_to v w p u grant_right c g)
 
-  pub left_created : (v w : Work) (p q u c r y : ℕ) → Grows v w → Grows v (taking_unless_held q c r y (doing (granting p c r y) (taking_to s p u grant_right c w)))
-  left_created v w p q u c r y g = left_taken v (taking_to s p u grant_right c w) p q c r y (grows_to v w p u grant_right c g)
-
-  pub asked_taken : (v w : Work) (p q u c r y : ℕ) → Grows v w →
-      Grows v (taking_unless_held q c r y (doing (granting p c r y) (taking_to s p u grant_right c (doing (granting q u grant_right c) w))))
-  asked_taken v w p q u c r y g = left_created v (doing (granting q u grant_right c) w) p q u c r y (grows_doing v w (granting q u grant_right c) g)
-
-  pub asked_created : (v w : Work) (p q u t c r y : ℕ) → Grows v w →
-      Grows v (taking_unless_held q c r y (doing (granting p c r y) (taking_to s p u grant_right c (doing (granting q u grant_right c) (taking_to s q t grant_right u w)))))
-  asked_created v w p q u t c r y g = asked_taken v (taking_to s q t grant_right u w) p q u c r y (grows_to v w q t grant_right u g)
-
-  pub passed_taken : (v w : Work) (p q r y t : ℕ) → Grows v w → Grows v (taking_to s q t r y (doing (granting p t r y) w))
-  passed_taken v w p q r y t g = grows_to v (doing (granting p t r y) w) q t r y (grows_doing v w (granting p t r y) g)
+  pub grows_left : (v w : Work) (p u c q r y : ℕ) → Grows v w → Grows v (taking_unless_held q c r y (given s p u c r y w))
+  grows_left v w p u c q r y g = grows_held v (given s p u c r y w) q c r y (grows_given v w p u c r y g)
 
   pub grows_over : (v w : Work) (p q r y : ℕ) → Grows v w → Grows v (over_bridge s p q r y w)
   unfolding over_bridge
@@ -39,9 +27,9 @@ module _ (s : State) where
       let c = w.state.size in
       let made = grows_doing v w (creating q) g in
       grows_either v _ _ (take_path s q p) (grows_to v w q p r y g)
-      (grows_either v _ _ (take_path s p q) (left_created v (doing (creating q) w) p q q c r y made)
-      (grows_either v _ _ (can_grant s u t) (passed_taken v (taking_to s p u grant_right t w) p q r y t (grows_to v w p u grant_right t g))
-      (asked_created v (doing (creating q) w) p q u t c r y made)))
+      (grows_either v _ _ (take_path s p q) (grows_left v (doing (creating q) w) p q c q r y made)
+      (grows_either v _ _ (can_grant s u t) (grows_to v (given s p u t r y w) q t r y (grows_given v w p u t r y g))
+      (grows_left v (given s q t u grant_right c (doing (creating q) w)) p u c q r y (grows_given v (doing (creating q) w) q t u grant_right c made))))
 
   pub grows_row : (v w : Work) (p : ℕ) (row : List ℕ) (r y : ℕ) → Grows v w → Grows v (over_row s p row r y w)
   unfolding over_row
@@ -50,32 +38,32 @@ module _ (s : State) where
 
   pub grows_handed : (v w : Work) (p x r y : ℕ) → Grows v w → Grows v (handed_to s p x r y w)
   grows_handed v w p x r y g =
-      grows_either v w _ (eqb p x) g (grows_doing v (taking_to s p (last_holder s p x) grant_right x w) (granting p x r y) (grows_to v w p (last_holder s p x) grant_right x g))
+      grows_either v w _ (eqb p x) g (grows_given v w p (last_holder s p x) x r y g)
 
 -- The right has come to `at`, and what is left of the row leads to the goal.
-pub record Over (s b : State) (r y : ℕ) (goal : Work) (plan : Plan) (was out : List ℕ) (at : ℕ) (rest : List ℕ) : Type 0 where
+pub record Over (b : State) (r y : ℕ) (goal : Work) (plan : Plan) (was out : List ℕ) (at : ℕ) (rest : List ℕ) : Type 0 where
   pub so_far : Work
   pub stands : At b so_far plan was out
-  pub leads : over_row s at rest r y so_far ≡ goal
+  pub leads : over_row b at rest r y so_far ≡ goal
 
-module _ (s b : State) (r y : ℕ) (goal : Work) (plan : Plan) (was out : List ℕ) (at : ℕ) where
-  further : (next : ℕ) (more : List ℕ) (i : Over s b r y goal plan was out at (next ∷ more)) → over_row s next more r y (over_bridge s at next r y i.so_far) ≡ goal
+module _ (b : State) (r y : ℕ) (goal : Work) (plan : Plan) (was out : List ℕ) (at : ℕ) where
+  further : (next : ℕ) (more : List ℕ) (i : Over b r y goal plan was out at (next ∷ more)) → over_row b next more r y (over_bridge b at next r y i.so_far) ≡ goal
   unfolding over_row
   further next more i = i.leads
 
-  pub over_more : (next : ℕ) (more : List ℕ) (i : Over s b r y goal plan was out at (next ∷ more)) → (plan' : Plan) (out' : List ℕ) →
-      At b (over_bridge s at next r y i.so_far) plan' was out' → Over s b r y goal plan' was out' next more
-  over_more next more i plan' out' a = record { so_far = over_bridge s at next r y i.so_far; stands = a; leads = further next more i }
+  pub over_more : (next : ℕ) (more : List ℕ) (i : Over b r y goal plan was out at (next ∷ more)) → (plan' : Plan) (out' : List ℕ) →
+      At b (over_bridge b at next r y i.so_far) plan' was out' → Over b r y goal plan' was out' next more
+  over_more next more i plan' out' a = record { so_far = over_bridge b at next r y i.so_far; stands = a; leads = further next more i }
 
-  pub over_halted : (next : ℕ) (more : List ℕ) (i : Over s b r y goal plan was out at (next ∷ more)) →
-      Halted b (length was) (over_bridge s at next r y i.so_far) → Halted b (length was) goal
+  pub over_halted : (next : ℕ) (more : List ℕ) (i : Over b r y goal plan was out at (next ∷ more)) →
+      Halted b (length was) (over_bridge b at next r y i.so_far) → Halted b (length was) goal
   over_halted next more i halted =
-      let v = over_bridge s at next r y i.so_far in
-      subst (Halted b (length was)) (further next more i) (halted_on b (length was) v _ (grows_row s v v next more r y (grows_not v)) halted)
+      let v = over_bridge b at next r y i.so_far in
+      subst (Halted b (length was)) (further next more i) (halted_on b (length was) v _ (grows_row b v v next more r y (grows_not v)) halted)
 
-  pub over_end : (rest : List ℕ) (i : Over s b r y goal plan was out at rest) → rest ≡ [] → i.so_far ≡ goal
+  pub over_end : (rest : List ℕ) (i : Over b r y goal plan was out at rest) → rest ≡ [] → i.so_far ≡ goal
   unfolding over_row
-  over_end rest i e = sym (ap (λ t. over_row s at t r y i.so_far) e) ∙ i.leads
+  over_end rest i e = sym (ap (λ t. over_row b at t r y i.so_far) e) ∙ i.leads
 
 -- Which of the four ways it is.
 module _ (s : State) (p q r y : ℕ) (w : Work) where

@@ -1,48 +1,37 @@
 -- The witness that is written is the exact one.
-use Rattle.std.proofs.Common.{◌≡◌, ℕ, ◌+◌, ◌-◌, ◌*◌, ◌≤◌, true, false, ◌||◌, T, List, [], ◌∷◌, ◌++◌, length, take, drop, sym, refl, ap, ◌∙◌, subst, ap₂, append_assoc, append-nil, arith, length-append, length-drop}
+use Rattle.std.proofs.Common.{◌≡◌, ℕ, ◌+◌, ◌-◌, ◌*◌, ◌≤◌, true, false, ◌||◌, T, Ok, Err, Result, List, [], ◌∷◌, ◌++◌, length, take, drop, sym, refl, ap, ◌∙◌, subst, ap₂, append_assoc, append-nil, arith, length-append, length-drop}
 use borrow.Rule.Slice.PartMut.{put_mid}
 use Rattle.std.proofs.lemmas.List.{drop_at, drop-drop, drop_all, take_all, length-take-le}
 use Rattle.std.proofs.lemmas.Bool.{cond-true, cond-false}
 use Rattle.model.specs.State.{State}
 use Rattle.model.specs.Exact.{Work, carried, holder_for, last_for, first_for, exact_work, exact_witness}
-use Rattle.witness.specs.Plans.{acts_bytes, performable}
-use Rattle.witness.specs.Answers.{AnsweredAs, NoneWritten, head_bytes, yes_bytes}
-use Rattle.witness.specs.declared.outcome.Outcome.{Outcome}
-use Rattle.witness.specs.declared.outcome.Outcome.TheVariants.{Written as WrittenIn, Never, NoRoom}
+use Rattle.witness.specs.Plans.{Wrote, acts_bytes}
+use Rattle.witness.specs.Answers.{Answered, Written, head_bytes, longest_answer_len, witness_of, yes_bytes}
+use Rattle.witness.specs.declared.halt.Halt.{Halt}
+use Rattle.model.specs.declared.Question.{Question}
+use Rattle.std.specs.Result.{IsErr, IsOk}
+use Rattle.model.specs.Rules.{all_applicable}
+use Rattle.model.specs.Plans.{creations}
 use Rattle.model.specs.declared.Rule.{Rule}
 use Rattle.model.specs.declared.Rule.TheVariants.{Take, Grant, Create, Remove}
 use Rattle.model.specs.State.{WellFormed}
-use Rattle.model.specs.Promise.{longest_witness_len}
 use Rattle.model.specs.Sharing.{can_get, can_share}
 use Rattle.model.proofs.ExactLaws.{exact_applicable, exact_short, exact_few}
 use Rattle.model.proofs.Tests.{right}
 use Rattle.codec.specs.Acts.{act_bytes}
 use Rattle.witness.specs.Ends.{Exact}
 use Rattle.witness.specs.declared.ends.Ends.{Ends}
-use Rattle.witness.proofs.Performed.{performed_all}
 
 abbrev pub begun : State → Work
 begun b = record { state = b; rules = [] }
 
-pub none_needed : (b : State) (x r y : ℕ) → true ≡ b.has x r y → exact_witness b x r y ≡ []
+pub none_needed : (b : State) (q : Question) → true ≡ b.has q.holder q.right q.target → witness_of b q ≡ []
 unfolding exact_witness
-none_needed b x r y h = cond-true (b.has x r y) _ _ (sym h)
+none_needed b q h = cond-true (b.has q.holder q.right q.target) _ _ (sym h)
 
-pub witness_is : (b : State) (x r y : ℕ) → false ≡ b.has x r y → exact_witness b x r y ≡ (exact_work b x r y).rules
+pub witness_is : (b : State) (q : Question) → false ≡ b.has q.holder q.right q.target → witness_of b q ≡ (exact_work b q.holder q.right q.target).rules
 unfolding exact_witness
-witness_is b x r y h = cond-false (b.has x r y) _ _ (sym h)
-
-pub work_is : (b s : State) (x r y t q p : ℕ) → s ≡ b → t ≡ holder_for s x r y → q ≡ last_for s x t → p ≡ first_for s x q →
-    carried s x r y t q p (begun b) ≡ exact_work b x r y
-unfolding exact_work
-work_is b s x r y t q p e et eq ep =
-    ap (λ k. carried s x r y k q p (begun b)) et
-    ∙ ap (λ k. carried s x r y (holder_for s x r y) k p (begun b)) last
-    ∙ ap (λ k. carried s x r y (holder_for s x r y) (last_for s x (holder_for s x r y)) k (begun b)) (ep ∙ ap (first_for s x) last)
-    ∙ ap (λ z. carried z x r y (holder_for z x r y) (last_for z x (holder_for z x r y)) (first_for z x (last_for z x (holder_for z x r y))) (begun b)) e
-  where
-    last : q ≡ last_for s x (holder_for s x r y)
-    last = eq ∙ ap (last_for s x) et
+witness_is b q h = cond-false (b.has q.holder q.right q.target) _ _ (sym h)
 
 -- An act has at most five bytes.
 acts_short : (rules : List Rule) → length (acts_bytes rules) ≤ 5 * length rules
@@ -56,25 +45,37 @@ acts_short (a ∷ more) = omega (arith, length-append (act_bytes a) (acts_bytes 
     one (Create c) = omega arith
     one (Remove d) = omega arith
 
--- The work of who can get the right and hasn't it: it can be carried out, and has room.
-module _ (b : State) (wf : WellFormed b) (x r y : ℕ) (e : Ends) (ends : Exact b x r y e) where
-  pub ends_share : T (can_share b x r y)
+pub yes_length : (rules : List Rule) → length (yes_bytes rules) ≡ 5 + length (acts_bytes rules)
+unfolding yes_bytes
+yes_length rules = length-append (head_bytes (length rules)) (acts_bytes rules)
+
+-- The work of who can get the right and hasn't it, and that it has room.
+module _ (b : State) (wf : WellFormed b) (q : Question) (e : Ends) (ends : Exact b q e) where
+  pub ends_share : T (can_share b q.holder q.right q.target)
   unfolding can_share
-  ends_share = right (b.has x r y) (can_get b x r y) ends.gets
+  ends_share = right (b.has q.holder q.right q.target) (can_get b q.holder q.right q.target) ends.gets
 
-  pub work_of : carried b x r y e.holder e.last e.first (begun b) ≡ exact_work b x r y
-  work_of = work_is b b x r y e.holder e.last e.first refl ends.holder ends.last ends.first
+  pub work_of : carried b q.holder q.right q.target e.holder e.last e.first (begun b) ≡ exact_work b q.holder q.right q.target
+  unfolding exact_work
+  work_of =
+      ap (λ t. carried b q.holder q.right q.target t e.last e.first (begun b)) ends.holder
+      ∙ ap (λ k. carried b q.holder q.right q.target (holder_for b q.holder q.right q.target) k e.first (begun b)) last
+      ∙ ap (λ k. carried b q.holder q.right q.target (holder_for b q.holder q.right q.target) (last_for b q.holder (holder_for b q.holder q.right q.target)) k (begun b))
+      (ends.first ∙ ap (first_for b q.holder) last)
+    where
+      last : e.last ≡ last_for b q.holder (holder_for b q.holder q.right q.target)
+      last = ends.last ∙ ap (last_for b q.holder) ends.holder
 
-  module _ (lacks : false ≡ b.has x r y) (few : b.size ≤ 128) where
-    pub work_performed : T (performable b (exact_work b x r y).rules)
-    work_performed =
-        subst (λ (z : List Rule). T (performable b z)) (witness_is b x r y lacks)
-        (performed_all b (exact_witness b x r y) (exact_applicable b wf x r y ends_share) (omega (arith, exact_few b wf x r y ends_share)))
+  pub answer_short : b.size ≤ 128 → length (yes_bytes (witness_of b q)) ≤ longest_answer_len b.size
+  answer_short few =
+      omega (arith, yes_length (witness_of b q), acts_short (witness_of b q), exact_short b wf q.holder q.right q.target ends_share)
 
-    pub work_short : length (acts_bytes (exact_work b x r y).rules) ≤ 5 * longest_witness_len b.size
-    work_short =
-        subst (λ (z : List Rule). length (acts_bytes z) ≤ 5 * longest_witness_len b.size) (witness_is b x r y lacks)
-        (omega (arith, acts_short (exact_witness b x r y), exact_short b wf x r y ends_share))
+  -- So whoever writes the answer into that room doesn't halt.
+  pub never_halts : (r : Result ℕ Halt) (was out : List ℕ) → b.size ≤ 128 → longest_answer_len b.size ≤ length was → Answered b (witness_of b q) r was out → IsOk r
+  never_halts (Ok n) was out few room a = refl
+  never_halts (Err _) was out few room a =
+      let none : ⊥ = a (exact_applicable b wf q.holder q.right q.target ends_share)
+      (omega (arith, exact_few b wf q.holder q.right q.target ends_share)) (omega (arith, answer_short few)) in absurd none
 
 -- The head before the acts, in a slice whose free end behind the head has them.
 module _ (was free out : List ℕ) (k : ℕ) (size : k ≡ length was - 5) (room : 5 ≤ length was) where
@@ -91,10 +92,6 @@ module _ (was free out : List ℕ) (k : ℕ) (size : k ≡ length was - 5) (room
   pub free_length : length (take k (drop 5 was)) ≡ length was - 5
   free_length = length-take-le k (drop 5 was) (let d = length-drop 5 was in omega arith) ∙ size
 
-pub yes_length : (rules : List Rule) → length (yes_bytes rules) ≡ 5 + length (acts_bytes rules)
-unfolding yes_bytes
-yes_length rules = length-append (head_bytes (length rules)) (acts_bytes rules)
-
 pub answered :
     (rules : List Rule) (was free out : List ℕ) (k : ℕ) → k ≡ length was - 5 → 5 ≤ length was → (used acts head : ℕ) → used ≡ length (acts_bytes rules) →
     acts ≡ length rules → head ≡ 5 → free ≡ acts_bytes rules ++ drop used (take k (drop 5 was)) → out ≡ head_bytes acts ++ drop head (put_mid 5 k was free) →
@@ -106,16 +103,38 @@ answered rules was free out k size room used acts head u a h f o = (
       ∙ ap₂ (λ m n. (head_bytes m ++ acts_bytes rules) ++ drop (n + used) was) a (sym h),
 )
 
--- No act, where x has the right.
-pub held_answered :
-    (b : State) (x r y : ℕ) (was out : List ℕ) (n : Outcome) → true ≡ b.has x r y → 5 ≤ length was → NoneWritten n was out → AnsweredAs b x r y n was out
-unfolding can_share yes_bytes acts_bytes
-held_answered b x r y was out NoRoom h room w = absurd (omega arith)
-held_answered b x r y was out (Never _) h room w = absurd w
-held_answered b x r y was out (WrittenIn n) h room w =
+-- No act, where the right is held.
+pub none_answered : (b : State) (r : Result ℕ Halt) (was out : List ℕ) → Wrote r (head_bytes 0) was out → Answered b [] r was out
+unfolding yes_bytes acts_bytes all_applicable
+none_answered b (Ok n) was out w = (w.0, w.2, tt)
+none_answered b (Err _) was out w = λ t h l. omega arith
+
+-- An answer that was given up.
+pub given_up : (b : State) (rules : List Rule) (r : Result ℕ Halt) (was out : List ℕ) → IsErr r →
+    (T (all_applicable b rules) → b.size + creations rules ≤ 255 → length (yes_bytes rules) ≤ length was → ⊥) → Answered b rules r was out
+given_up b rules (Err _) was out failed h = h
+given_up b rules (Ok _) was out failed h = let none : ⊥ = cc in absurd none
+
+pub head_fits : (r : Result ℕ Halt) (n : ℕ) (was out : List ℕ) → 5 ≤ length was → Wrote r (head_bytes n) was out → IsOk r
+head_fits (Ok k) n was out l w = refl
+head_fits (Err _) n was out l w = absurd (omega arith)
+
+pub plan_written :
+    (b : State) (q : Question) (n : ℕ) (was out : List ℕ) → T (can_share b q.holder q.right q.target) → length out ≡ length was → Answered b (witness_of b q) (Ok n) was out → Written b q n was out
+plan_written b q n was out shared e a =
     record {
-      shared = subst (λ c. T (c || can_get b x r y)) h tt;
-      room = omega (arith, w.0, w.1);
-      size = w.0 ∙ ap (λ (z : List Rule). length (yes_bytes z)) (sym (none_needed b x r y h));
-      bytes = w.2 ∙ ap₂ (λ (z : List Rule) m. yes_bytes z ++ drop m was) (sym (none_needed b x r y h)) (sym w.0);
+      shared = shared;
+      room = omega (arith, e ∙ refl, ap length a.1, length-append (yes_bytes (witness_of b q)) (drop n was), length-drop n was, a.0);
+      size = a.0;
+      bytes = a.1;
+    }
+
+pub held_written : (b : State) (q : Question) (n : ℕ) (was out : List ℕ) → true ≡ b.has q.holder q.right q.target → Wrote (Ok n) (head_bytes 0) was out → Written b q n was out
+unfolding can_share yes_bytes acts_bytes
+held_written b q n was out h w =
+    record {
+      shared = subst (λ c. T (c || can_get b q.holder q.right q.target)) h tt;
+      room = w.1;
+      size = w.0 ∙ ap (λ (z : List Rule). length (yes_bytes z)) (sym (none_needed b q h));
+      bytes = w.2 ∙ ap (λ (z : List Rule). yes_bytes z ++ drop n was) (sym (none_needed b q h));
     }

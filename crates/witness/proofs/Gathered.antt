@@ -4,7 +4,7 @@ use lib.Dec.{not_T}
 use Rattle.std.proofs.lemmas.Bool.{cases_eq}
 use Rattle.model.specs.Bounded.{some_below}
 use Rattle.model.proofs.Tests.{both, parts, cases, left, right, same, SomeBoth, some_both, both_from, some_below-law, some_from}
-use Rattle.spans.proofs.Walk.{Without}
+use Rattle.bits.proofs.Walk.{Without}
 
 -- `all` is what belongs to those of the set that are not in `rest`.
 pub record Gathered (set : ℕ → Bool) (of : ℕ → ℕ → Bool) (all rest : ℕ → Bool) : Type 0 where

@@ -1,5 +1,6 @@
 -- A plan goes on: one more act, and what can't be reached any more.
-use Rattle.std.proofs.Common.{◌≡◌, ℕ, T, List, [], ◌∷◌, ◌++◌, length, drop, sym, refl, ap, ◌∙◌, subst, append_assoc, append-nil, arith, length-append}
+use Rattle.std.proofs.Common.{◌≡◌, ℕ, T, Ok, Err, Result, List, [], ◌∷◌, ◌++◌, length, drop, sym, refl, ap, ◌∙◌, subst, append_assoc, append-nil, arith, length-append}
+use Rattle.std.specs.Result.{IsErr}
 use Rattle.model.specs.State.{State}
 use Rattle.model.specs.Rules.{applied}
 use Rattle.model.specs.Exact.{Work, doing}
@@ -7,7 +8,9 @@ use Rattle.model.specs.declared.Rule.{Rule}
 use Rattle.codec.specs.Acts.{act_bytes}
 use Rattle.graph.specs.Graphs.{state}
 use Rattle.witness.specs.declared.plan.Plan.{Plan}
-use Rattle.witness.specs.Plans.{acts_bytes, done, performable, At, Halted}
+use Rattle.witness.specs.Of.{routed}
+use Rattle.witness.specs.Plans.{acts_bytes, done, performable, At, Does, Goes, Halted}
+use Rattle.witness.specs.declared.halt.Halt.{Halt}
 use Rattle.witness.proofs.Performed.{performed_front}
 
 pub acts_more : (rs : List Rule) (a : Rule) → acts_bytes (rs ++ (a ∷ [])) ≡ acts_bytes rs ++ act_bytes a
@@ -46,9 +49,11 @@ halted_on b room v w g h t l =
     (let e = ap (λ rs. length (acts_bytes rs)) g.behind ∙ ap length (acts_append v.rules g.more) ∙ length-append (acts_bytes v.rules) (acts_bytes g.more) in omega arith)
 
 -- What stands in the room of its searches is nothing to a plan.
-pub relaid : (b : State) (w : Work) (plan : Plan) (was out : List ℕ) → At b w plan was out → (next : Plan) → next.graph ≡ plan.graph → next.used ≡ plan.used → next.acts ≡ plan.acts → At b w next was out
-relaid b w plan was out at next g u a =
+pub relaid : (b : State) (w : Work) (plan : Plan) (was out : List ℕ) → At b w plan was out → (next : Plan) →
+    next.routes ≡ plan.routes → next.graph ≡ plan.graph → next.used ≡ plan.used → next.acts ≡ plan.acts → At b w next was out
+relaid b w plan was out at next r g u a =
     record {
+      about = ap (λ z. routed z.now) r ∙ at.about;
       here = ap state g ∙ at.here;
       reached = at.reached;
       performed = at.performed;
@@ -56,3 +61,34 @@ relaid b w plan was out at next g u a =
       count = a ∙ at.count;
       written = at.written ∙ ap (λ n. acts_bytes w.rules ++ drop n was) (sym u);
     }
+
+-- A step that ended in an error.
+pub stopped : (b : State) (w : Work) (r : Result (Unit {0}) Halt) (plan : Plan) (was out : List ℕ) → IsErr r → Halted b (length was) w → Goes b w r plan was out
+stopped b w (Err e) plan was out failed h = h
+stopped b w (Ok _) plan was out failed h = let none : ⊥ = cc in absurd none
+
+-- One step and then another: as far as they go, and where the first can't be taken.
+module _ {plan : Plan} {out : List ℕ} (first then : State → Work → Work) where
+  pub goes_on : {mid : Plan} {out' : List ℕ} (r : Result (Unit {0}) Halt) (after : Plan) (out'' : List ℕ) →
+      ((b : State) (w : Work) (was : List ℕ) → At b w plan was out → At b (first b w) mid was out') →
+      Does then mid out' r after out'' → Does (λ b w. then b (first b w)) plan out r after out''
+  goes_on r after out'' f g b w was at = g b (first b w) was (f b w was at)
+
+  pub stops : (r : Result (Unit {0}) Halt) (after : Plan) (out'' : List ℕ) → ((b : State) (v w : Work) → Grows v w → Grows v (then b w)) →
+      ((b : State) (w : Work) (was : List ℕ) → At b w plan was out → Halted b (length was) (first b w)) → IsErr r →
+      Does (λ b w. then b (first b w)) plan out r after out''
+  stops r after out'' grows f failed b w was at =
+      stopped b (then b (first b w)) r _ was _ failed (halted_on b (length was) (first b w) (then b (first b w)) (grows b (first b w) (first b w) (grows_not (first b w))) (f b w was at))
+
+module _ (plan next : Plan) (out after : List ℕ) (r : Result (Unit {0}) Halt) where
+  -- A step that is the same in the state that the plan is chosen in.
+  pub same_step : (step other : State → Work → Work) → ((w : Work) → step (routed plan.routes.now) w ≡ other (routed plan.routes.now) w) →
+      Does step plan out r next after → Does other plan out r next after
+  same_step step other e d b w was at =
+      subst (λ (v : Work). Goes b v r next was after) (subst (λ (z : State). step z w ≡ other z w) at.about (e w)) (d b w was at)
+
+  -- A step that names the next vertex by its number.
+  pub next_named : (step : ℕ → State → Work → Work) (k : ℕ) → k ≡ (state plan.graph).size → Does (step k) plan out r next after →
+      Does (λ b w. step w.state.size b w) plan out r next after
+  next_named step k e d b w was at =
+      subst (λ (m : ℕ). Goes b (step m b w) r next was after) (e ∙ ap (λ (z : State). z.size) at.here) (d b w was at)

@@ -1,10 +1,10 @@
 -- Layers round a vertex: from where at most so many steps of a table lead to it.
-use Rattle.std.proofs.Common.{◌≡◌, ℕ, suc, ◌+◌, ◌<◌, ◌≤◌, Bool, false, cond, not, ◌&&◌, ◌||◌, T, eqb, List, length, set, sym, ap, ◌∙◌, subst, inl, inr, add-one, arith}
+use Rattle.std.proofs.Common.{◌≡◌, ℕ, suc, ◌+◌, ◌-◌, ◌<◌, ◌≤◌, Bool, false, cond, not, ◌&&◌, ◌||◌, T, eqb, List, length, get_or, reverse, set, take, sym, ap, ◌∙◌, subst, inl, inr, add-one, arith}
 use lib.Dec.{not_T}
 use Rattle.std.proofs.lemmas.Bool.{cases_eq, eq-eqb, ne_eqb, cond-true, cond-false}
-use Rattle.bits.specs.Sets.{holds}
+use Rattle.std.proofs.lemmas.List.{get_or-take, get_or-reverse, get_or_default, length-reverse}
+use Rattle.bits.specs.Sets.{holds, none, VertexSet}
 use Rattle.graph.proofs.Rows.{row_set}
-use Rattle.bits.specs.declared.set.VertexSet.{VertexSet}
 use Rattle.graph.specs.Table.{in_row}
 use Rattle.model.specs.Bounded.{some_below}
 use Rattle.model.specs.Closure.{within}
@@ -56,6 +56,19 @@ module _ (n : ℕ) (e : ℕ → ℕ → Bool) (fit : (x z : ℕ) → T (e x z) �
 
       older : (z : ℕ) → T (next z) → (T (fresh' z) → ⊥) → T (near z)
       older z t old = elim (decide (near z)) [ inl h ↦ h | inr h ↦ absurd (old (subst T (sym (d z)) (both (next z) _ t (not_T (near z) h)))) ]
+
+-- The first k rows of a table are those of the table.
+pub front_rows : (rows : List VertexSet) (k j z : ℕ) → j < k → in_row (take k rows) j z ≡ in_row rows j z
+unfolding in_row
+front_rows rows k j z h = ap (λ s. holds s z) (get_or-take k rows j none h)
+
+-- What is gone over from the last row to the first: after i rows comes this one.
+pub last_row : (rows : List VertexSet) (near : VertexSet) (i : ℕ) → (i < length (reverse rows)) × (near ≡ get_or (reverse rows) i near) → (z : ℕ) →
+    in_row rows (length rows - 1 - i) z ≡ holds near z
+unfolding in_row
+last_row rows near i (h, e) z =
+    let l : i < length rows = omega (arith, length-reverse rows) in
+    ap (λ s. holds s z) (get_or_default rows (length rows - 1 - i) none near (omega arith) ∙ sym (get_or-reverse rows i near l) ∙ sym e)
 
 -- The layers below k, of which none has x, and the one that comes next.
 pub record Laid (e : ℕ → ℕ → Bool) (n x y : ℕ) (near fresh : ℕ → Bool) (sets : ℕ → ℕ → Bool) (k : ℕ) : Type 0 where

@@ -1,4 +1,5 @@
 pub mod Lowest
+pub mod Tabled
 pub mod Layers
 pub mod Walked
 pub mod Relation
@@ -12,4 +13,5 @@ pub mod Acted
 pub mod Along
 pub mod Crossing
 pub mod Exactly
+pub mod Unshared
 pub mod Same

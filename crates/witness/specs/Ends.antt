@@ -4,17 +4,18 @@ use Rattle.bits.specs.Sets.{holds}
 use Rattle.model.specs.Bounded.{only}
 use Rattle.model.specs.Certificates.{inner_of, out_of, into_of}
 use Rattle.model.specs.State.{State}
+use Rattle.model.specs.declared.Question.{Question}
 use Rattle.model.specs.Sharing.{can_get}
 use Rattle.model.specs.Exact.{holder_for, last_for, first_for}
 use Rattle.spans.specs.declared.barrier.Barrier.{Barrier}
 use Rattle.witness.specs.declared.ends.Ends.{Ends}
 
 -- Those of the exact witness.
-pub record Exact (s : State) (x r y : ℕ) (e : Ends) : Type 0 where
-  pub gets : T (can_get s x r y)
-  pub holder : e.holder ≡ holder_for s x r y
-  pub last : e.last ≡ last_for s x e.holder
-  pub first : e.first ≡ first_for s x e.last
+pub record Exact (s : State) (q : Question) (e : Ends) : Type 0 where
+  pub gets : T (can_get s q.holder q.right q.target)
+  pub holder : e.holder ≡ holder_for s q.holder q.right q.target
+  pub last : e.last ≡ last_for s q.holder e.holder
+  pub first : e.first ≡ first_for s q.holder e.last
 
 -- The barrier round x: the three sets of the certificate of a no.
 pub record Round (s : State) (x : ℕ) (b : Barrier) : Type 0 where
@@ -22,7 +23,7 @@ pub record Round (s : State) (x : ℕ) (b : Barrier) : Type 0 where
   pub out : (k : ℕ) → holds b.out k ≡ out_of s (only x) k
   pub into : (k : ℕ) → holds b.into k ≡ into_of s (only x) k
 
--- There are none exactly if x can't get the right; the barrier then shows it.
-abbrev pub Chosen : State → ℕ → ℕ → ℕ → Result Ends Barrier → Type 0
-Chosen s x r y (Ok e) = Exact s x r y e
-Chosen s x r y (Err b) = (can_get s x r y ≡ false) × Round s x b
+-- There are none exactly if the holder can't get the right; the barrier then shows it.
+abbrev pub Chosen : State → Question → Result Ends Barrier → Type 0
+Chosen s q (Ok e) = Exact s q e
+Chosen s q (Err b) = (can_get s q.holder q.right q.target ≡ false) × Round s q.holder b

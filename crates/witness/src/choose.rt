@@ -10,8 +10,8 @@ use model::Vertex;
 pub fn lowest_of(set: &VertexSet, size: u8) -> Vertex
     ensures { result ≡ lowest size (holds set.now) }
 {
-    let Some(v) = set.lowest() else {
-        return size;
-    };
-    if v < size { v } else { size }
+    match set.lowest() {
+        Some(v) if v < size => v,
+        _ => size,
+    }
 }

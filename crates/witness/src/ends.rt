@@ -2,7 +2,7 @@
 ghost use Rattle.std.specs.Prelude.{◌≡◌, ℕ};
 ghost use Rattle.bits.specs.Sets.{holds};
 ghost use Rattle.graph.specs.Graphs.{state};
-ghost use Rattle.model.specs.Exact.{first_for, holder_for, last_for};
+ghost use Rattle.model.specs.Exact.{first_for, last_for};
 ghost use Rattle.witness.specs.Ends.{Chosen, Round};
 ghost use Rattle.witness.specs.Of.{routed};
 
@@ -10,7 +10,7 @@ use crate::choose::lowest_of;
 use crate::routes::Routes;
 use bits::VertexSet;
 use graph::Graph;
-use model::{Right, Vertex};
+use model::{Question, Right, Vertex};
 use spans::Barrier;
 
 #[derive(Clone, Copy)]
@@ -63,29 +63,17 @@ impl Ends {
         }
     }
 
-    // If x can't get the right, the barrier that shows it.
-    pub fn chosen(routes: &Routes, x: Vertex, r: Right, y: Vertex) -> Result<Ends, Barrier>
-        ensures cases { Chosen (routed routes.now) x r y result }
+    // If the right never comes about, the barrier that shows it.
+    pub fn of(routes: &Routes, question: Question) -> Result<Ends, Barrier>
+        ensures cases { Chosen (routed routes.now) question result }
     {
+        let x = question.holder;
         let barrier = routes.links.barrier(x);
-        let reached = holding(routes.graph, r, y).intersection(&barrier.out);
+        let holders = holding(routes.graph, question.right, question.target);
+        let reached = holders.intersection(&barrier.out);
         let Some(holder) = reached.lowest() else {
             return Err(barrier);
         };
         Ok(Ends::over(routes, x, holder, &barrier))
-    }
-
-    // So also where x can't get the right: the number of vertices then stands for a vertex that there isn't.
-    pub fn of(routes: &Routes, x: Vertex, r: Right, y: Vertex) -> Ends
-        ensures holder { result.holder ≡ holder_for (routed routes.now) x r y }
-        ensures last { result.last ≡ last_for (routed routes.now) x result.holder }
-        ensures first { result.first ≡ first_for (routed routes.now) x result.last }
-    {
-        let barrier = routes.links.barrier(x);
-        let holder = lowest_of(
-            &holding(routes.graph, r, y).intersection(&barrier.out),
-            routes.graph.size(),
-        );
-        Ends::over(routes, x, holder, &barrier)
     }
 }

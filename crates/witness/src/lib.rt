@@ -5,14 +5,14 @@ mod answer;
 mod choose;
 mod ends;
 mod halt;
-mod outcome;
 mod plan;
 mod routes;
 mod row;
 mod tables;
+mod unwritten;
 mod write;
 
 pub use answer::{longest_answer, write_witness};
 pub use halt::Halt;
-pub use outcome::Outcome;
 pub use routes::Routes;
+pub use unwritten::Unwritten;

@@ -6,18 +6,29 @@ mod take;
 
 ghost use Rattle.std.specs.Prelude.{◌≤◌};
 
-use crate::row::SETS;
+use crate::routes::Routes;
 use bits::VertexSet;
 use graph::Graph;
+use model::{Right, Vertex};
+use spans::SETS;
 
 #[derive(Drop)]
-pub struct Plan {
+pub struct Plan<'a> {
+    // What it is chosen from.
+    routes: &'a Routes<'a>,
     // The graph after the acts that are written.
-    pub(crate) graph: Graph,
+    graph: Graph,
     // How many bytes are written, and how many acts.
     pub(crate) used: usize,
     pub(crate) acts: usize,
     // Room for the layers of a search for a path.
-    pub(crate) layers: [VertexSet; SETS],
+    layers: [VertexSet; SETS],
     ghost each: { acts ≤ used },
+}
+
+// A right to a vertex.
+#[derive(Clone, Copy)]
+pub struct Held {
+    right: Right,
+    to: Vertex,
 }

@@ -1,42 +1,45 @@
-// Tables of steps: bridges and take rights, from each vertex.
-ghost use Rattle.std.specs.Prelude.{◌≡◌, ℕ, ◌&&◌};
-ghost use Rattle.bits.specs.Sets.{holds};
+// Tables of who is beside whom, and of bridges.
+ghost use Rattle.std.specs.Prelude.{◌≡◌, ℕ, ◌<◌, ◌≤◌, false, ◌&&◌};
+ghost use Rattle.bits.specs.Sets.{holds, VertexSet};
 ghost use Rattle.graph.specs.Graphs.{state};
 ghost use Rattle.graph.specs.Table.{in_row};
 ghost use Rattle.model.specs.Bounded.{some_below};
 ghost use Rattle.model.specs.Spans.{bridge};
-ghost use Rattle.spans.specs.Of.{spanned};
+ghost use Rattle.spans.specs.Of.{linked, spanned};
 ghost use Rattle.witness.specs.Beside.{near};
 
-use crate::row::SETS;
 use bits::VertexSet;
 use graph::Graph;
-use model::{GRANT, TAKE, Vertex};
-use spans::TakePaths;
+use model::{GRANT, Vertex};
+use spans::{Links, SETS, TakePaths};
+use std::array;
 
 // What the rows of the table have that belong to one of the set.
 pub fn gather(table: &[VertexSet; SETS], set: &VertexSet) -> VertexSet
     ensures { (k : ℕ) → holds result k ≡ some_below 256 (λ u. holds set.now u && in_row table.now u k) }
 {
-    let mut rest = *set;
     let mut all = VertexSet::empty();
-    while let Some(u) = rest.lowest() {
-        rest.remove(u);
+    for u in set.iter() {
         all = all.union(&table[u as usize]);
     }
     all
 }
 
-// Who has grant to each vertex, or is granted to by it. `granters` has who has grant to each.
-pub fn beside(graph: &Graph, granters: &[VertexSet; SETS]) -> [VertexSet; SETS]
-    requires { (y k : ℕ) → in_row granters.now y k ≡ (state graph.now).has k 1 y }
+// A row for each number that a vertex can have.
+fn each<F: Fn(Vertex) -> VertexSet>(row: F) -> [VertexSet; SETS]
+    requires { F.IsAlwaysCallable row }
+    ensures rows { (p : ℕ) → p < 256 → (set : VertexSet) × F.post row p set × ((q : ℕ) → in_row result p q ≡ holds set q) }
+    ensures past { (p q : ℕ) → 256 ≤ p → in_row result p q ≡ false }
+{
+    array::from_fn(|p| row(p as Vertex))
+}
+
+// Who has grant to each vertex, or is granted to by it.
+pub fn beside(graph: &Graph, links: &Links) -> [VertexSet; SETS]
+    requires { linked links.now ≡ state graph.now }
     ensures { (u v : ℕ) → in_row result u v ≡ near (state graph.now) u v }
 {
-    let mut sets = [VertexSet::empty(); SETS];
-    for u in 0..graph.size() {
-        sets[u as usize] = graph.targets(u, GRANT).union(&granters[u as usize]);
-    }
-    sets
+    each(|u| graph.targets(u, GRANT).union(&links.granters(u)))
 }
 
 // To whom a bridge leads from p.
@@ -65,20 +68,5 @@ pub fn bridges(graph: &Graph, paths: &TakePaths, beside: &[VertexSet; SETS]) -> 
     requires same { spanned paths.now ≡ state graph.now }
     ensures { (p q : ℕ) → in_row result p q ≡ bridge (state graph.now) p q }
 {
-    let mut sets = [VertexSet::empty(); SETS];
-    for p in 0..graph.size() {
-        sets[p as usize] = bridges_from(graph, paths, beside, p);
-    }
-    sets
-}
-
-// Whom each vertex has take to.
-pub fn takes(graph: &Graph) -> [VertexSet; SETS]
-    ensures { (p q : ℕ) → in_row result p q ≡ (state graph.now).has p 0 q }
-{
-    let mut sets = [VertexSet::empty(); SETS];
-    for p in 0..graph.size() {
-        sets[p as usize] = graph.targets(p, TAKE);
-    }
-    sets
+    each(|p| bridges_from(graph, paths, beside, p))
 }

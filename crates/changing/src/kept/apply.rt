@@ -1,20 +1,19 @@
 // Rules applied to the graph and to its rows.
-ghost use Rattle.std.specs.Prelude.{◌≡◌, ℕ, false, ◌&&◌, if◌then◌else◌};
+ghost use Rattle.std.specs.Prelude.{◌≡◌, ℕ, false, ◌&&◌, if◌then◌else◌, Ok, Err, IfOk, MatchResult};
+ghost use Rattle.std.specs.Result.{is_ok};
 ghost use Rattle.bits.specs.Sets.{holds};
 ghost use Rattle.changing.specs.Of.{Untouched, kept_row, tracked};
 ghost use Rattle.changing.specs.Renewed.{changes_take, renews};
-ghost use Rattle.graph.specs.Graphs.{answer, is_done, state};
+ghost use Rattle.graph.specs.Graphs.{answer, state};
 ghost use Rattle.model.specs.Changes.{changed};
 ghost use Rattle.model.specs.Rules.{applied};
 ghost use Rattle.spans.specs.Paths.{path_from};
 
 use super::ChangingGraph;
-use crate::renewal::Renewal;
-use crate::rows::{ROW, WORDS, begin_each, close_each, holding, unite_each};
-use bits::{VertexSet, row_insert};
-use graph::{Graph, Outcome};
+use crate::rows::Rows;
+use bits::VertexSet;
+use graph::{Apply, Graph, Refusal};
 use model::{Rule, TAKE, Vertex};
-use spans::lead;
 
 // Whose rights the rule changes.
 fn holder(rule: Rule) -> Vertex
@@ -33,8 +32,7 @@ impl ChangingGraph {
     pub fn of(graph: Graph) -> ChangingGraph
         ensures value { tracked result ≡ state graph }
     {
-        let mut rows = [0; WORDS];
-        lead::<4>(&graph, &mut rows);
+        let rows = Rows::of(&graph);
         ChangingGraph { graph, rows }
     }
 
@@ -42,7 +40,7 @@ impl ChangingGraph {
     fn leading_to(&self, v: Vertex) -> VertexSet
         ensures value { (k : ℕ) → holds result k ≡ path_from (tracked self.now) k v }
     {
-        holding(&self.rows, self.graph.size(), v)
+        self.rows.holding(self.graph.size(), v)
     }
 
     // Does the rule, if it is applied, change a take right?
@@ -79,38 +77,42 @@ impl ChangingGraph {
         rows
     }
 
-    // Applies a rule, or refuses it and changes nothing. Rows that are not among those of the answer are not touched.
-    pub fn apply(&mut self, rule: Rule) -> Renewal
-        ensures value { result.outcome ≡ answer (tracked self.old) rule }
-        ensures after { tracked self.new ≡ (if is_done result.outcome then applied (tracked self.old) rule else tracked self.old) }
-        ensures renewed { (v : ℕ) → holds result.rows v ≡ (is_done result.outcome && renews (tracked self.old) rule v) }
-        ensures kept { (x y : ℕ) → holds result.rows x ≡ false → kept_row self.new x y ≡ kept_row self.old x y }
-        ensures same { is_done result.outcome ≡ false → Untouched self.old self.new }
+    // Applies a rule, or refuses it and changes nothing. The answer is of the vertices whose rows were worked out anew: no other row is touched.
+    pub fn apply(&mut self, rule: Rule) -> Result<VertexSet, Refusal>
+        ensures value { MatchResult result (λ _. answer (tracked self.old) rule ≡ Ok tt) (λ refusal. answer (tracked self.old) rule ≡ Err refusal) }
+        ensures after { tracked self.new ≡ (if is_ok result then applied (tracked self.old) rule else tracked self.old) }
+        ensures renewed { IfOk result (λ rows. (v : ℕ) → holds rows v ≡ renews (tracked self.old) rule v) }
+        ensures kept { IfOk result (λ rows. (x y : ℕ) → holds rows x ≡ false → kept_row self.new x y ≡ kept_row self.old x y) }
+        ensures same { is_ok result ≡ false → Untouched self.old self.new }
     {
         let renewed = self.to_renew(rule);
         let new = self.graph.size();
-        let outcome = self.graph.apply(rule);
-        let Outcome::Done = outcome else {
-            return Renewal {
-                outcome,
-                rows: VertexSet::empty(),
-            };
-        };
+        self.graph.apply(rule)?;
         match rule {
-            Rule::Take(t) => unite_each(&mut self.rows, renewed, t.to),
-            Rule::Grant(g) => unite_each(&mut self.rows, renewed, g.to),
+            Rule::Take(t) => self.rows.unite_each(renewed, t.to),
+            Rule::Grant(g) => self.rows.unite_each(renewed, g.to),
             Rule::Create(_) => {
-                row_insert(&mut self.rows, ROW, new as usize, new as usize);
-                unite_each(&mut self.rows, renewed, new);
+                self.rows.insert(new, new);
+                self.rows.unite_each(renewed, new);
             }
             Rule::Remove(_) => {
-                begin_each(&self.graph, &mut self.rows, renewed);
-                close_each(&mut self.rows, new, renewed);
+                self.rows.begin_each(&self.graph, renewed);
+                self.rows.close_each(new, renewed);
             }
         }
-        Renewal {
-            outcome,
-            rows: renewed,
-        }
+        Ok(renewed)
+    }
+}
+
+impl Apply for ChangingGraph {
+    ghost stands_for = { tracked };
+
+    fn size(&self) -> u8 {
+        self.graph().size()
+    }
+
+    fn apply(&mut self, rule: Rule) -> Result<(), Refusal> {
+        ChangingGraph::apply(self, rule)?;
+        Ok(())
     }
 }

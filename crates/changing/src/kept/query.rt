@@ -9,7 +9,7 @@ ghost use Rattle.std.specs.Prelude.{◌≡◌};
 use super::ChangingGraph;
 use bits::VertexSet;
 use graph::Graph;
-use model::{Right, Vertex};
+use model::{Question, Right, Vertex};
 
 impl ChangingGraph {
     // The graph as it is now.
@@ -19,27 +19,21 @@ impl ChangingGraph {
         &self.graph
     }
 
-    // Has one of the set right r to y?
+    // Has one of the set this right?
     fn one_has(&self, set: VertexSet, r: Right, y: Vertex) -> bool
         ensures value { result ≡ of_some (holds set) (λ t z. (tracked self.now).has t r z) y }
     {
-        let mut rest = set;
-        while let Some(t) = rest.lowest() {
-            rest.remove(t);
-            if self.graph.has(t, r, y) {
-                return true;
-            }
-        }
-        false
+        set.iter().any(|t| self.graph.has(t, r, y))
     }
 
-    // Can x come to have right r to y?
-    pub fn can_share(&self, x: Vertex, r: Right, y: Vertex) -> bool
-        ensures value { result ≡ can_share (tracked self.now) x r y }
+    // Can the holder come to have the right to the target?
+    pub fn can_share(&self, q: Question) -> bool
+        ensures value { result ≡ can_share (tracked self.now) q.holder q.right q.target }
     {
-        if x >= self.graph.size() {
+        if q.holder >= self.graph.size() {
             return false;
         }
-        self.graph.has(x, r, y) || self.one_has(self.out_of(x), r, y)
+        self.graph.has(q.holder, q.right, q.target)
+            || self.one_has(self.out_of(q.holder), q.right, q.target)
     }
 }

@@ -8,8 +8,8 @@ ghost use Rattle.model.specs.Certificates.{out_of};
 ghost use Rattle.model.specs.Spans.{can_grant};
 
 use super::ChangingGraph;
-use crate::rows::ROW;
-use bits::{VertexSet, row_set};
+use crate::select::those;
+use bits::VertexSet;
 use model::{GRANT, Vertex};
 
 fn overlap(a: &VertexSet, b: &VertexSet) -> bool
@@ -23,7 +23,7 @@ impl ChangingGraph {
     fn row(&self, q: Vertex) -> VertexSet
         ensures value { (k : ℕ) → holds result k ≡ kept_row self.now q k }
     {
-        row_set(&self.rows, ROW, q as usize)
+        self.rows.row(q)
     }
 
     fn leads_into(&self, q: Vertex, set: &VertexSet) -> bool
@@ -37,11 +37,9 @@ impl ChangingGraph {
         ensures value { (o : ℕ) → holds result o ≡ reached_from (tracked self.now) (holds from) (holds set.now) o }
     {
         let mut all = VertexSet::empty();
-        let mut rest = from;
-        while let Some(q) = rest.lowest() {
-            rest.remove(q);
+        for q in from {
             if self.leads_into(q, set) {
-                all = all.union(&self.row(q));
+                all.add(&self.row(q));
             }
         }
         all
@@ -51,13 +49,9 @@ impl ChangingGraph {
     fn granted(&self, set: VertexSet) -> VertexSet
         ensures value { (v : ℕ) → holds result v ≡ of_some (holds set) (can_grant (tracked self.now)) v }
     {
-        let mut all = VertexSet::empty();
-        let mut rest = set;
-        while let Some(o) = rest.lowest() {
-            rest.remove(o);
-            all = all.union(&self.graph.targets(o, GRANT));
-        }
-        all
+        set.iter().fold(VertexSet::empty(), |all, o| {
+            all.union(&self.graph.targets(o, GRANT))
+        })
     }
 
     fn grants_into(&self, v: Vertex, set: &VertexSet) -> bool
@@ -70,13 +64,7 @@ impl ChangingGraph {
     fn granters(&self, set: &VertexSet) -> VertexSet
         ensures value { (v : ℕ) → holds result v ≡ of_some (holds set.now) (λ o p. can_grant (tracked self.now) p o) v }
     {
-        let mut found = VertexSet::empty();
-        for v in 0..self.graph.size() {
-            if self.grants_into(v, set) {
-                found.insert(v);
-            }
-        }
-        found
+        those(self.graph.size(), |v| self.grants_into(v, set))
     }
 
     fn givers(&self, set: &VertexSet) -> VertexSet
@@ -106,8 +94,8 @@ impl ChangingGraph {
             if fresh.is_empty() {
                 return out;
             }
-            out = out.union(&fresh);
-            entries = entries.union(&self.beside(fresh));
+            out.add(&fresh);
+            entries.add(&self.beside(fresh));
         }
     }
 }

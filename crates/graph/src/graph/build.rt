@@ -4,20 +4,19 @@ ghost use Rattle.bits.specs.Sets.{holds};
 ghost use Rattle.graph.specs.Graphs.{state, bare};
 ghost use Rattle.model.specs.Rules.{given, removed};
 
-use super::query::row;
-use super::{Graph, RIGHTS, ROWS};
+use super::{Graph, NUMBERS, ROWS};
 use bits::VertexSet;
-use model::{Right, Vertex};
+use model::{RIGHTS, Right, Vertex};
 
 impl Graph {
     // A graph of so many vertices with these subjects, in which nobody has a right. None if there is no vertex, or a subject is not among them.
     pub fn new(size: u8, subjects: VertexSet) -> Option<Graph>
         ensures cases { MatchOption result (((0 < size) × ((k : ℕ) → T (holds subjects k) → k < size)) → ⊥) (λ g. state g ≡ bare size (holds subjects)) }
     {
-        if size == 0 || !subjects.is_subset(&VertexSet::below(size)) {
+        if size == 0 || !subjects.is_subset(&VertexSet::below(size as usize)) {
             return None;
         }
-        let rows = [VertexSet::empty(); ROWS];
+        let rows = [[VertexSet::empty(); ROWS]; NUMBERS];
         Some(Graph {
             size,
             subjects,
@@ -52,7 +51,7 @@ impl Graph {
         requires { (p < (state self.old).size) × ((r < 8) × (q < (state self.old).size)) }
         ensures after { state self.new ≡ given p r q (state self.old) }
     {
-        self.rows[row(p, r)].insert(q);
+        self.rows[p as usize][r as usize].insert(q);
     }
 
     pub(super) fn withdraw(&mut self, p: Vertex, r: Right, q: Vertex)
@@ -60,7 +59,7 @@ impl Graph {
         ensures after { state self.new ≡ removed p r q (state self.old) }
     {
         if r < RIGHTS {
-            self.rows[row(p, r)].remove(q);
+            self.rows[p as usize][r as usize].remove(q);
         }
     }
 }

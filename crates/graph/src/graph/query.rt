@@ -4,9 +4,9 @@ ghost use Rattle.bits.specs.Sets.{holds};
 ghost use Rattle.graph.specs.Graphs.{state};
 ghost use Rattle.graph.specs.Table.{in_row, in_table};
 
-use super::{Graph, RIGHTS};
+use super::Graph;
 use bits::VertexSet;
-use model::{Right, Vertex};
+use model::{RIGHTS, Right, Vertex};
 
 impl Graph {
     pub fn size(&self) -> u8
@@ -32,7 +32,7 @@ impl Graph {
         ensures value { (k : ℕ) → holds result k ≡ (state self.now).has p r k }
     {
         if r < RIGHTS {
-            self.rows[row(p, r)]
+            self.rows[p as usize][r as usize]
         } else {
             VertexSet::empty()
         }
@@ -43,12 +43,4 @@ impl Graph {
     {
         self.targets(p, r).contains(q)
     }
-}
-
-// Where the row of a vertex and a right stands.
-pub(super) fn row(p: Vertex, r: Right) -> usize
-    requires { r < 8 }
-    ensures { result ≡ 8 * p + r }
-{
-    8 * p as usize + r as usize
 }

@@ -5,21 +5,26 @@ ghost use Rattle.model.specs.Sharing.{can_share};
 ghost use Rattle.sharing.specs.Of.{answered};
 
 use super::Sharing;
-use crate::spread::RIGHTS;
+use crate::table::row;
 use bits::{row_contains, row_count};
-use model::{Right, Vertex};
+use model::{Question, RIGHTS, Right, Vertex};
 use spans::width;
 
 impl Sharing<'_, '_> {
-    // Can x come to have right r to y?
-    pub fn can_share(&self, x: Vertex, r: Right, y: Vertex) -> bool
-        ensures value { result ≡ can_share (answered self.now) x r y }
+    // Can the holder come to have the right to the target?
+    pub fn can_share(&self, question: Question) -> bool
+        ensures value { result ≡ can_share (answered self.now) question.holder question.right question.target }
     {
+        let Question {
+            holder,
+            right,
+            target,
+        } = question;
         let n = self.graph.size();
-        if x >= n || y >= n || r >= RIGHTS {
+        if holder >= n || target >= n || right >= RIGHTS {
             return false;
         }
-        row_contains(self.rows, width(n), 8 * y as usize + r as usize, x as usize)
+        row_contains(self.rows, width(n), row(right, target), usize::from(holder))
     }
 
     // How many can come to have right r to y?
@@ -30,6 +35,6 @@ impl Sharing<'_, '_> {
         if y >= n || r >= RIGHTS {
             return 0;
         }
-        row_count(self.rows, width(n), 8 * y as usize + r as usize)
+        row_count(self.rows, width(n), row(r, y))
     }
 }

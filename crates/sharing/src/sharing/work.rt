@@ -5,7 +5,7 @@ ghost use Rattle.sharing.specs.Of.{answered};
 ghost use Rattle.sharing.specs.Table.{table_words};
 
 use super::Sharing;
-use crate::table::work_out;
+use crate::table::filled;
 use graph::Graph;
 use spans::width;
 
@@ -27,11 +27,7 @@ impl<'g, 'm> Sharing<'g, 'm> {
         if rows.len() < Sharing::words(n) {
             return None;
         }
-        if n <= 128 {
-            work_out::<2>(graph, &mut [0; 256], &mut [0; 256], rows);
-        } else {
-            work_out::<4>(graph, &mut [0; 1024], &mut [0; 1024], rows);
-        }
+        let rows = filled(graph, rows);
         Some(Sharing { graph, rows })
     }
 }

@@ -1,71 +1,99 @@
 // What links tell of the rights round a vertex.
-ghost use Rattle.std.specs.Prelude.{◌≡◌, ℕ, ◌&&◌, ◌||◌, ◌==◌};
-ghost use Rattle.bits.specs.Sets.{holds};
+ghost use Rattle.std.specs.Prelude.{◌≡◌, ℕ, ◌*◌, ◌≤◌, ◌&&◌, ◌||◌, ◌==◌};
+ghost use Rattle.bits.specs.Sets.{among, holds};
 ghost use Rattle.graph.specs.Graphs.{state};
+ghost use Rattle.graph.specs.Table.{in_row};
 ghost use Rattle.model.specs.Spans.{can_grant, can_take};
 ghost use Rattle.model.specs.State.{is_subject};
 ghost use Rattle.spans.specs.Of.{linked};
+ghost use Rattle.spans.specs.Sets.{in_sets};
 
-use super::Links;
-use crate::turned::holders;
-use bits::VertexSet;
+use super::{Links, WideLinks};
+use crate::turned::{SETS, holders};
+use bits::{BitSet, VertexSet};
 use graph::Graph;
 use model::{GRANT, TAKE, Vertex};
 
-impl<'a> Links<'a> {
-    pub fn of(graph: &'a Graph) -> Links<'a>
+impl<'a, const W: usize> WideLinks<'a, W> {
+    // With who has take to each vertex, and who has grant.
+    pub fn with(
+        graph: &'a Graph,
+        takers: [BitSet<W>; SETS],
+        granters: [BitSet<W>; SETS],
+    ) -> WideLinks<'a, W>
+        requires wide { ((state graph.now).size ≤ 64 * W) × (W ≤ 4) }
+        requires taken { (y k : ℕ) → in_sets takers y k ≡ (state graph.now).has k 0 y }
+        requires granted { (y k : ℕ) → in_sets granters y k ≡ (state graph.now).has k 1 y }
         ensures value { linked result ≡ state graph.now }
     {
-        Links {
+        WideLinks {
             graph,
-            takers: holders(graph, TAKE),
-            granters: holders(graph, GRANT),
+            takers,
+            granters,
         }
     }
 
-    // Whom p has take to.
-    pub(super) fn takes(&self, p: Vertex) -> VertexSet
-        ensures value { (q : ℕ) → holds result q ≡ can_take (linked self.now) p q }
+    pub(super) fn subjects(&self) -> BitSet<W>
+        ensures value { (q : ℕ) → among W result q ≡ is_subject (linked self.now) q }
     {
-        self.graph.targets(p, TAKE)
+        self.graph.subjects().resized()
+    }
+
+    // Whom p has take to.
+    pub(super) fn takes(&self, p: Vertex) -> BitSet<W>
+        ensures value { (q : ℕ) → among W result q ≡ can_take (linked self.now) p q }
+    {
+        self.graph.targets(p, TAKE).resized()
     }
 
     // Who has take to p.
-    pub(super) fn takers(&self, p: Vertex) -> VertexSet
-        ensures value { (q : ℕ) → holds result q ≡ can_take (linked self.now) q p }
+    pub(super) fn takers(&self, p: Vertex) -> BitSet<W>
+        ensures value { (q : ℕ) → among W result q ≡ can_take (linked self.now) q p }
     {
         self.takers[p as usize]
     }
 
     // Who has grant to p.
-    fn granters(&self, p: Vertex) -> VertexSet
-        ensures value { (q : ℕ) → holds result q ≡ can_grant (linked self.now) q p }
+    pub fn granters(&self, p: Vertex) -> BitSet<W>
+        ensures value { (q : ℕ) → among W result q ≡ can_grant (linked self.now) q p }
     {
         self.granters[p as usize]
     }
 
-    // The set, and p if it is a subject.
-    pub(super) fn with_subject(&self, set: VertexSet, p: Vertex) -> VertexSet
-        ensures value { (q : ℕ) → holds result q ≡ ((q == p && is_subject (linked self.now) p) || holds set q) }
+    // p alone, if it is a subject.
+    pub(super) fn itself(&self, p: Vertex) -> BitSet<W>
+        ensures value { (q : ℕ) → among W result q ≡ (q == p && is_subject (linked self.now) p) }
     {
-        let mut with = set;
-        if self.graph.is_subject(p) {
-            with.insert(p);
-        }
-        with
+        self.subjects().pick(p as usize)
     }
 
     // Who has grant to p, and p itself if it is a subject.
-    pub(super) fn givers(&self, p: Vertex) -> VertexSet
-        ensures value { (q : ℕ) → holds result q ≡ ((q == p && is_subject (linked self.now) p) || can_grant (linked self.now) q p) }
+    pub(super) fn givers(&self, p: Vertex) -> BitSet<W>
+        ensures value { (q : ℕ) → among W result q ≡ ((q == p && is_subject (linked self.now) p) || can_grant (linked self.now) q p) }
     {
-        self.with_subject(self.granters(p), p)
+        self.itself(p).union(&self.granters(p))
     }
 
     // Who has grant to p or is granted to by p, and p itself if it is a subject.
-    pub(super) fn beside(&self, p: Vertex) -> VertexSet
-        ensures value { (q : ℕ) → holds result q ≡ (can_grant (linked self.now) p q || ((q == p && is_subject (linked self.now) p) || can_grant (linked self.now) q p)) }
+    pub(super) fn beside(&self, p: Vertex) -> BitSet<W>
+        ensures value { (q : ℕ) → among W result q ≡ (can_grant (linked self.now) p q || ((q == p && is_subject (linked self.now) p) || can_grant (linked self.now) q p)) }
     {
-        self.graph.targets(p, GRANT).union(&self.givers(p))
+        let granted: BitSet<W> = self.graph.targets(p, GRANT).resized();
+        granted.union(&self.givers(p))
+    }
+}
+
+impl<'a> Links<'a> {
+    pub fn of(graph: &'a Graph) -> Links<'a>
+        ensures value { linked result ≡ state graph.now }
+    {
+        WideLinks::with(graph, holders(graph, TAKE), holders(graph, GRANT))
+    }
+
+    // Who has take to each vertex.
+    pub fn takers_of_each(&self) -> &[VertexSet; SETS]
+        ensures value { (p q : ℕ) → in_row result.now p q ≡ can_take (linked self.now) q p }
+    {
+        &self.takers
     }
 }

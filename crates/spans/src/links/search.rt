@@ -1,87 +1,90 @@
-// The search for a barrier: from x over single rights, each vertex looked at once from each side.
-ghost use Rattle.std.specs.Prelude.{◌≡◌, ℕ, ◌&&◌, ◌||◌, ◌==◌};
-ghost use Rattle.bits.specs.Sets.{holds};
+// The search for a barrier: from a vertex over single rights, each vertex looked at once from each side.
+ghost use Rattle.std.specs.Prelude.{◌≡◌, ℕ, ◌+◌, ◌<◌, true, false, ◌&&◌};
+ghost use Rattle.bits.specs.Sets.{among, holds};
 ghost use Rattle.model.specs.Bounded.{only};
 ghost use Rattle.model.specs.Certificates.{inner_of, out_of, into_of};
-ghost use Rattle.model.specs.Spans.{can_grant, can_take, connected};
+ghost use Rattle.model.specs.Spans.{connected};
 ghost use Rattle.model.specs.State.{is_subject};
+ghost use Rattle.spans.specs.Fronts.{looked_at, unseen};
 ghost use Rattle.spans.specs.Of.{linked};
+ghost use Rattle.spans.specs.Searching.{Searching};
+ghost use Rattle.std.proofs.Props.{props};
 
-use super::Links;
+use super::{Links, WideLinks};
 use crate::barrier::Barrier;
-use bits::VertexSet;
+use crate::front::Front;
+use bits::{BitSet, VertexSet};
 use model::Vertex;
 
-// What was found, and of that what was looked at.
-#[derive(Clone, Copy)]
-struct Search {
-    out: VertexSet,
-    into: VertexSet,
-    out_done: VertexSet,
-    into_done: VertexSet,
+// How far it has come.
+#[derive(Drop)]
+struct Search<'l, 'a, const W: usize> {
+    links: &'l WideLinks<'a, W>,
+    from: Vertex,
+    // What the take paths from inside lead to, and from where they lead to whatever can give something.
+    out: Front<W>,
+    into: Front<W>,
+    ghost searching: { Searching (linked links.now) from (among W out.found) (among W into.found) (looked_at out) (looked_at into) } by { Prim.hlevel props },
+}
+
+impl<'l, 'a, const W: usize> Search<'l, 'a, W> {
+    fn of(links: &'l WideLinks<'a, W>, from: Vertex) -> Search<'l, 'a, W>
+        ensures { (result.links ≡ links.entry) × (result.from ≡ from) }
+    {
+        Search {
+            links,
+            from,
+            out: Front::of(BitSet::empty()),
+            into: Front::of(links.givers(from)),
+        }
+    }
+
+    // Looks at one more. False if all that was found was looked at.
+    fn step(&mut self) -> bool
+        ensures same { (self.new.links ≡ self.old.links) × (self.new.from ≡ self.old.from) }
+        ensures fewer { result ≡ true → unseen self.new.out + unseen self.new.into < unseen self.old.out + unseen self.old.into }
+        ensures over { result ≡ false → ((k : ℕ) → among W self.new.out.left k ≡ false) × ((k : ℕ) → among W self.new.into.left k ≡ false) }
+    {
+        if let Some(p) = self.out.pop() {
+            self.out.add(&self.links.takes(p));
+            self.into.add(&self.links.beside(p));
+            true
+        } else if let Some(p) = self.into.pop() {
+            self.into.add(&self.links.takers(p));
+            self.out.add(&self.links.itself(p));
+            true
+        } else {
+            false
+        }
+    }
+}
+
+impl<const W: usize> WideLinks<'_, W> {
+    // Where the take paths lead to from the island that can give something to x.
+    pub fn reach(&self, x: Vertex) -> BitSet<W>
+        ensures value { (k : ℕ) → among W result k ≡ out_of (linked self.now) (only x) k }
+    {
+        let every: BitSet<W> = BitSet::below(self.graph.size() as usize);
+        let mut search = Search::of(self, x);
+        // Nothing can be added to a whole set.
+        while !every.is_subset(&search.out.found) && search.step() {}
+        search.out.found
+    }
 }
 
 impl Links<'_> {
-    // Adds what one of `out` leads to.
-    fn look_out(&self, found: Search, p: Vertex) -> Search
-        ensures out { (k : ℕ) → holds result.out k ≡ (holds found.out k || can_take (linked self.now) p k) }
-        ensures into { (k : ℕ) → holds result.into k ≡ (holds found.into k || (can_grant (linked self.now) p k || ((k == p && is_subject (linked self.now) p) || can_grant (linked self.now) k p))) }
-        ensures done { (k : ℕ) → holds result.out_done k ≡ (k == p || holds found.out_done k) }
-        ensures same { result.into_done ≡ found.into_done }
-    {
-        let mut done = found.out_done;
-        done.insert(p);
-        Search {
-            out: found.out.union(&self.takes(p)),
-            into: found.into.union(&self.beside(p)),
-            out_done: done,
-            into_done: found.into_done,
-        }
-    }
-
-    // Adds what leads to one of `into`.
-    fn look_into(&self, found: Search, p: Vertex) -> Search
-        ensures out { (k : ℕ) → holds result.out k ≡ ((k == p && is_subject (linked self.now) p) || holds found.out k) }
-        ensures into { (k : ℕ) → holds result.into k ≡ (holds found.into k || can_take (linked self.now) k p) }
-        ensures done { (k : ℕ) → holds result.into_done k ≡ (k == p || holds found.into_done k) }
-        ensures same { result.out_done ≡ found.out_done }
-    {
-        let mut done = found.into_done;
-        done.insert(p);
-        Search {
-            out: self.with_subject(found.out, p),
-            into: found.into.union(&self.takers(p)),
-            out_done: found.out_done,
-            into_done: done,
-        }
-    }
-
     // The least barrier round x.
     pub fn barrier(&self, x: Vertex) -> Barrier
         ensures inner { (k : ℕ) → holds result.inner k ≡ inner_of (linked self.now) (only x) k }
         ensures out { (k : ℕ) → holds result.out k ≡ out_of (linked self.now) (only x) k }
         ensures into { (k : ℕ) → holds result.into k ≡ into_of (linked self.now) (only x) k }
     {
-        let none = VertexSet::empty();
-        let mut found = Search {
-            out: none,
-            into: self.givers(x),
-            out_done: none,
-            into_done: none,
-        };
-        loop {
-            if let Some(p) = found.out.difference(&found.out_done).lowest() {
-                found = self.look_out(found, p);
-            } else if let Some(p) = found.into.difference(&found.into_done).lowest() {
-                found = self.look_into(found, p);
-            } else {
-                let inner = self.graph.subjects().intersection(&found.out);
-                return Barrier {
-                    inner,
-                    out: found.out,
-                    into: found.into,
-                };
-            }
+        let mut search = Search::of(self, x);
+        while search.step() {}
+        Barrier {
+            inner: self.subjects().intersection(&search.out.found),
+            out: search.out.found,
+            into: search.into.found,
         }
     }
 

@@ -1,36 +1,44 @@
 // What routes tell: the shortest ways, and where they meet.
-ghost use Rattle.model.specs.Exact.{far_end, last_holder, near_end, shortest_path, shortest_row_of};
+ghost use Rattle.bits.specs.Sets.{holds};
+ghost use Rattle.model.specs.Exact.{far_end, last_holder, lowest, near_end, shortest_path, shortest_row_of};
 ghost use Rattle.model.specs.Spans.{bridge, can_grant, take_path};
 ghost use Rattle.witness.specs.Of.{routed};
-ghost use Rattle.witness.specs.Rows.{steps};
-ghost use Rattle.std.specs.Prelude.{◌≡◌};
+ghost use Rattle.std.specs.Prelude.{◌≡◌, ◌&&◌};
 
 use super::Routes;
 use crate::choose::lowest_of;
-use crate::row::{Row, SETS, shortest_row};
+use crate::row::{Row, shortest_row};
 use crate::tables::gather;
 use bits::VertexSet;
-use model::{GRANT, Vertex};
+use model::{GRANT, TAKE, Vertex};
+use spans::SETS;
 
 impl Routes<'_> {
-    // The shortest take path from x to y. Of `layers`, room to work in, nothing is said: it is written over at the next call.
-    pub fn path(&self, x: Vertex, y: Vertex, layers: &mut [VertexSet; SETS]) -> Row
-        ensures value { steps result ≡ shortest_path (routed self.now) x y }
+    // The shortest take path from x to y. Of `room` nothing is said: it is written over at the next call.
+    pub fn path(&self, x: Vertex, y: Vertex, room: &mut [VertexSet; SETS]) -> Row
+        ensures value { result.items ≡ shortest_path (routed self.now) x y }
     {
-        shortest_row(&self.takes, &self.takers, self.graph.size(), x, y, layers)
+        shortest_row(
+            |p| self.graph.targets(p, TAKE),
+            self.links.takers_of_each(),
+            self.graph.size(),
+            x,
+            y,
+            room,
+        )
     }
 
     // The shortest row of bridges from p to q.
-    pub fn row(&self, p: Vertex, q: Vertex, layers: &mut [VertexSet; SETS]) -> Row
-        ensures value { steps result ≡ shortest_row_of (routed self.now).size (bridge (routed self.now)) p q }
+    pub fn row(&self, p: Vertex, q: Vertex, room: &mut [VertexSet; SETS]) -> Row
+        ensures value { result.items ≡ shortest_row_of (routed self.now).size (bridge (routed self.now)) p q }
     {
         shortest_row(
-            &self.bridges,
+            |v| self.bridges[v as usize],
             &self.bridges,
             self.graph.size(),
             p,
             q,
-            layers,
+            room,
         )
     }
 
@@ -41,12 +49,18 @@ impl Routes<'_> {
         x == y || self.paths.leads(x, y)
     }
 
+    // The lowest vertex of the set that is on a take path from p.
+    fn lowest_ahead(&self, p: Vertex, set: &VertexSet) -> Vertex
+        ensures value { result ≡ lowest (routed self.now).size (λ u. take_path (routed self.now) p u && holds set.now u) }
+    {
+        lowest_of(&self.paths.from(p).intersection(set), self.graph.size())
+    }
+
     // The lowest vertex on a take path from p that is beside one on a take path from q.
     pub fn near_end(&self, p: Vertex, q: Vertex) -> Vertex
         ensures value { result ≡ near_end (routed self.now) p q }
     {
-        let sides = gather(&self.beside, &self.paths.from(q));
-        lowest_of(&self.paths.from(p).intersection(&sides), self.graph.size())
+        self.lowest_ahead(p, &gather(&self.beside, &self.paths.from(q)))
     }
 
     // The lowest vertex on a take path from q that is beside u.
@@ -54,18 +68,14 @@ impl Routes<'_> {
         ensures value { result ≡ far_end (routed self.now) q u }
     {
         let sides = self.beside[u as usize];
-        lowest_of(&self.paths.from(q).intersection(&sides), self.graph.size())
+        self.lowest_ahead(q, &sides)
     }
 
     // The lowest vertex on a take path from p that has grant to x.
     pub fn last_holder(&self, p: Vertex, x: Vertex) -> Vertex
         ensures value { result ≡ last_holder (routed self.now) p x }
     {
-        let granters = self.granters[x as usize];
-        lowest_of(
-            &self.paths.from(p).intersection(&granters),
-            self.graph.size(),
-        )
+        self.lowest_ahead(p, &self.links.granters(x))
     }
 
     pub fn grants(&self, u: Vertex, v: Vertex) -> bool

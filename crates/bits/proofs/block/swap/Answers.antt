@@ -1,6 +1,6 @@
 use Rattle.std.proofs.Common.{◌+◌, ◌*◌, ◌≤◌, mul-le-mul_right, mul-le-mul_left, mul-add, arith}
 use Rattle.bits.specs.Rows.{cell}
-use Rattle.bits.proofs.Blocks.{swapped_none, swapped_more, swapped_all}
+use Rattle.bits.proofs.Blocks.{swapped_more}
 use Rattle.bits.proofs.block.swap.Goals as goal
 
 pub swap_strips-requires : goal.swap_strips-requires
@@ -11,14 +11,7 @@ swap_strips-requires g c =
     let words = mul-le-mul_right g.row.W fits in
     (omega (arith, c.requires), (fits, c.requires.1.1))
 
-pub loop-b-init : goal.loop-b-init
-loop-b-init g c = swapped_none g.row.J (64 * g.row.W) (cell c.args.block.now g.row.W)
-
 pub loop-b-preserved : goal.loop-b-preserved
 loop-b-preserved g c =
     swapped_more g.row.J g.row.W c.args.mask (cell c.args.block.now g.row.W) (cell c.loop-b.block g.row.W) (cell c.swap_strips.new.block g.row.W) c.loop-b.b c.requires.1.1
     c.swap_strips.ensures c.loop-b.invariant
-
-pub returns : goal.returns
-returns g c =
-    swapped_all g.row.J (64 * g.row.W) (cell c.args.block.now g.row.W) (cell c.loop-b.block g.row.W) c.loop-b.b c.args.n (omega arith) c.requires.1.0 c.loop-b.invariant

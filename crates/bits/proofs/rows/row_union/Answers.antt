@@ -1,9 +1,6 @@
 use Rattle.std.proofs.Common.{arith}
-use Rattle.bits.proofs.Cell.{added_none, added_more, added_all}
+use Rattle.bits.proofs.Cell.{added_more, added_all}
 use Rattle.bits.proofs.rows.row_union.Goals as goal
-
-pub loop-i-init : goal.loop-i-init
-loop-i-init c = added_none c.args.rows.now c.args.w c.args.into c.args.from
 
 pub loop-i-preserved : goal.loop-i-preserved
 loop-i-preserved c =

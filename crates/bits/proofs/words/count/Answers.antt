@@ -1,29 +1,24 @@
-use Rattle.std.proofs.Common.{◌≡◌, ℕ, ◌+◌, ◌*◌, ◌^◌, ◌<◌, length, get_or, sym, refl, ap, ◌∙◌, arith}
-use lib.Count.{ones, ones-le}
+use Rattle.std.proofs.Common.{◌-◌, ◌^◌, ap, sym, ◌∙◌, arith, rules, tests}
+use lib.Count.{ones}
+use Rattle.std.proofs.lemmas.Iterator.{YieldsList-from_slice, YieldsList-from_map}
+use Rattle.std.proofs.lemmas.Iterator.Consumers.{sum_by_from_yields_List, YieldsList-at}
+use Rattle.std.proofs.lemmas.Iterator.Adapters.{fits_from_length, at_most_from_yields_List}
 use Rattle.model.specs.Bounded.{count_below}
 use Rattle.bits.specs.Sets.{member}
-use Rattle.bits.proofs.Below.{count_le}
-use Rattle.bits.proofs.Scan.{count_more, count_all}
+use Rattle.bits.proofs.Below.{count_same}
+use Rattle.bits.proofs.ByWord.{count_words}
 use Rattle.bits.proofs.words.count.Goals as goal
 
-pub loop-w-init : goal.loop-w-init
-unfolding count_below
-loop-w-init c = refl
-
-pub overflow_add-n : goal.overflow_add-n
-overflow_add-n c =
-    let w : ℕ = get_or c.args.words.now c.loop-w.w-index 0 in
-    let small : w < 2 ^ 64 = omega arith in
-    let before : c.loop-w.n ≡ count_below (64 * c.loop-w.w-index) (member c.args.words.now) = c.loop-w.invariant in
-    omega (arith, ones-le 64 w small, before, count_le (64 * c.loop-w.w-index) (member c.args.words.now))
-
-pub loop-w-preserved : goal.loop-w-preserved
-loop-w-preserved c =
-    let w : ℕ = get_or c.args.words.now c.loop-w.w-index 0 in
-    let small : w < 2 ^ 64 = omega arith in
-    ap (λ n. n + ones w) c.loop-w.invariant ∙ sym (count_more c.args.words.now c.loop-w.w-index small)
+pub sum-requires-clause-fits : goal.sum-requires-clause-fits
+sum-requires-clause-fits c =
+    fits_from_length _ _ (2 ^ 58 - 1) _
+    (at_most_from_yields_List (YieldsList-at c.map.ensures.source (YieldsList-from_slice c.args.words.now cc)) (omega arith))
+    c.map.ensures.closure (omega arith) (λ x r q k. (search rules, search (rules, tests)))
 
 pub returns : goal.returns
-returns c = λ n f e h.
-    let end : c.loop-w.w-index ≡ length c.args.words.now = omega arith in
-    c.loop-w.invariant ∙ count_all c.args.words.now c.loop-w.w-index n f (omega arith) h
+returns c n f e h =
+    let ws = c.args.words.now in
+    sum_by_from_yields_List ones ws c.map.result c.sum.result c.sum.ensures.ran
+    (YieldsList-from_map _ ones (YieldsList-at c.map.ensures.source (YieldsList-from_slice ws cc)) c.map.ensures.closure (λ x r q k. search rules))
+    ∙ count_words ws (λ i. omega (arith, c.type_inv.words i))
+    ∙ ap (λ m. count_below m (member ws)) (sym e) ∙ count_same n (member ws) f (λ k l. sym (h k))

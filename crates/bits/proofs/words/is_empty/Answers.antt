@@ -1,15 +1,15 @@
-use Rattle.std.proofs.Common.{sym, arith}
-use Rattle.bits.proofs.Scan.{clear_more, clear_all, first_at, empty_all, empty_fails}
+use Rattle.std.proofs.Common.{not, eqb, ◌∙◌, ap, sym, arith, rules, tests}
+use Rattle.std.proofs.lemmas.Iterator.{YieldsList-from_slice}
+use Rattle.std.proofs.lemmas.Iterator.Search.{all_from_yields_List}
+use Rattle.model.specs.Bounded.{all_below}
+use Rattle.bits.specs.Sets.{member}
+use Rattle.bits.proofs.Below.{all_same}
+use Rattle.bits.proofs.ByWord.{empty_words}
 use Rattle.bits.proofs.words.is_empty.Goals as goal
 
-pub loop-w-preserved : goal.loop-w-preserved
-loop-w-preserved c = clear_more c.args.words.now c.loop-w.w-index c.if-w-ne0.false c.loop-w.invariant
-
-pub returns-then-w-ne0 : goal.returns-then-w-ne0
-returns-then-w-ne0 c = λ n f e h.
-    let first = first_at c.args.words.now c.loop-w.w-index (omega arith) (omega arith) c.loop-w.invariant in
-    sym (empty_fails c.args.words.now c.loop-w.w-index _ n f first (omega arith) e h)
-
 pub returns : goal.returns
-returns c = λ n f e h.
-    sym (empty_all c.args.words.now n f (clear_all c.args.words.now c.loop-w.w-index (omega arith) c.loop-w.invariant) h)
+returns c n f e h =
+    let ws = c.args.words.now in
+    all_from_yields_List (λ w. eqb w 0) _ _ c.all.result c.all.ensures.ran (YieldsList-from_slice ws cc) (λ x b q k. search (rules, tests))
+    ∙ empty_words ws (λ i. omega (arith, c.type_inv.words i))
+    ∙ ap (λ m. all_below m (λ k. not (member ws k))) (sym e) ∙ all_same n (λ k. not (member ws k)) f (λ k l. sym (h k))

@@ -1,24 +1,19 @@
-use Rattle.std.proofs.Common.{◌≡◌, ◌&&◌, length, sym, refl, ap, ◌∙◌, ap₂, arith}
-use Rattle.model.specs.Bounded.{all_below}
-use Rattle.bits.proofs.Scan.{within, within_more, within_all, within_fails}
+use Rattle.std.proofs.Common.{ap, sym, ◌∙◌, rules, tests}
+use Rattle.std.proofs.lemmas.Iterator.{YieldsList-from_slice, YieldsList-from_zip}
+use Rattle.std.proofs.lemmas.Iterator.Consumers.{YieldsList-at}
+use Rattle.std.proofs.lemmas.Iterator.Search.{all_from_yields_List}
+use Rattle.model.specs.Bit.{bit}
+use Rattle.model.specs.Bounded.{all_below, implies}
+use Rattle.bits.specs.Sets.{member}
+use Rattle.bits.proofs.Below.{all_same}
+use Rattle.bits.proofs.ByWord.{within_words}
 use Rattle.bits.proofs.words.is_subset.Goals as goal
 
-pub loop-i-init : goal.loop-i-init
-unfolding all_below
-loop-i-init c = refl
-
-pub loop-i-preserved : goal.loop-i-preserved
-loop-i-preserved c =
-    within_more c.args.words.now c.args.other.now c.loop-i.i
-    ∙ ap₂ (λ a b. a && b) c.loop-i.invariant (sym c.if-not-is_within.ensures)
-
-pub returns-then-not-is_within : goal.returns-then-not-is_within
-returns-then-not-is_within c = λ n f e h.
-    sym (within_fails c.args.words.now c.args.other.now c.loop-i.i (omega arith) (sym c.if-not-is_within.ensures))
-    ∙ within_all c.args.words.now c.args.other.now n f e h
-
 pub returns : goal.returns
-returns c = λ n f e h.
-    let end : c.loop-i.i ≡ length c.args.words.now = omega arith in
-    sym c.loop-i.invariant ∙ ap (within c.args.words.now c.args.other.now) end
-    ∙ within_all c.args.words.now c.args.other.now n f e h
+returns c n f e h =
+    let ws = c.args.words.now in
+    let vs = c.args.other.now in
+    all_from_yields_List (λ p. all_below 64 (λ j. implies (bit p.0 j) (bit p.1 j))) c.all.new.self _ c.all.result c.all.ensures.ran
+    (YieldsList-from_zip (YieldsList-at c.zip.ensures.first (YieldsList-from_slice ws cc)) (YieldsList-from_slice {s = c.zip.result.b} vs c.zip.ensures.second.0)) (λ x b q k. search (rules, tests))
+    ∙ within_words ws vs c.requires
+    ∙ ap (λ m. all_below m (λ k. implies (member ws k) (member vs k))) (sym e) ∙ all_same n (λ k. implies (member ws k) (member vs k)) f (λ k l. sym (h k))

@@ -4,10 +4,13 @@ use Rattle.codec.specs.Replay.{acts_at}
 use Rattle.codec.proofs.history.apply_acts.Given as goal
 
 -- The acts from here on, on the graph as it is, answer what all of them answer; and each of those so far took a byte at least.
-abbrev pub invariant-loop-at : goal.invariant-loop-at
-invariant-loop-at l =
-    (l.count ≤ l.at) ×
-    (acts_at (length l.bytes - l.count) l.bytes l.at l.count (state l.graph) ≡ acts_at (length l.bytes) l.bytes l.start 0 (state l.initial.graph))
+abbrev pub invariant-loop-acts : goal.invariant-loop-acts
+invariant-loop-acts l =
+    record {
+      input : l.acts.bytes.now ≡ l.initial.acts.bytes.now;
+      many : l.count ≤ l.acts.at;
+      left : acts_at (length l.initial.acts.bytes.now - l.count) l.initial.acts.bytes.now l.acts.at l.count (state l.graph) ≡ acts_at (length l.initial.acts.bytes.now) l.initial.acts.bytes.now l.initial.acts.at 0 (state l.initial.graph);
+    }
 
-abbrev pub decreases-loop-at : goal.decreases-loop-at
-decreases-loop-at l = length l.bytes - l.at
+abbrev pub decreases-loop-acts : goal.decreases-loop-acts
+decreases-loop-acts l = length l.acts.bytes.now - l.acts.at

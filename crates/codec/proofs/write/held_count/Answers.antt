@@ -1,16 +1,11 @@
-use Rattle.std.proofs.Common.{◌≡◌, ◌+◌, refl, ap, ◌∙◌, arith}
+use Rattle.std.proofs.Common.{◌+◌, ap, ◌∙◌, arith}
 use Rattle.graph.specs.Graphs.{state}
 use Rattle.bits.specs.Sets.{holds}
 use Rattle.bits.proofs.Below.{count_le}
 use Rattle.model.proofs.Tests.{is_false}
 use Rattle.graph.proofs.Sound.{target_below, few_vertices}
-use Rattle.codec.specs.Writing.{count_held}
 use Rattle.codec.proofs.Written.{count_more}
 use Rattle.codec.proofs.write.held_count.Goals as goal
-
-pub loop-r-init : goal.loop-r-init
-unfolding count_held
-loop-r-init c = (refl, omega arith)
 
 pub overflow_add-count : goal.overflow_add-count
 overflow_add-count c = let k = count_le 256 (holds c.targets.result) in omega (arith, k, c.count-count.ensures, c.loop-r.invariant.1, c.loop-r-test.true)
@@ -24,8 +19,3 @@ loop-r-preserved c =
           (let l = few_vertices g in omega arith) c.loop-r.invariant.0,
       (let k = count_le 256 (holds c.targets.result) in omega (arith, k, c.count-count.ensures, c.loop-r.invariant.1)),
     )
-
-pub returns : goal.returns
-returns c =
-    let z : c.loop-r.r ≡ 8 = omega arith in
-    record { value = c.loop-r.invariant.0 ∙ ap (count_held (state c.args.graph.now) c.args.p) z; bound = omega (arith, z, c.loop-r.invariant.1) }

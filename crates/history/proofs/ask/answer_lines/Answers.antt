@@ -1,8 +1,22 @@
-use Rattle.std.proofs.Common.{vec_items}
-use Rattle.history.proofs.Said.{lines_said}
+use Rattle.std.proofs.Common.{◌++◌, vec_items, ap, ◌∙◌}
+use Rattle.model.specs.Sharing.{can_share}
+use Rattle.answers.specs.Lines.{line_of}
+use Rattle.history.specs.Left.{left, now}
+use Rattle.history.specs.Printed.{line_to}
+use Rattle.history.proofs.Said.{answered_more, answered_all, text_more, lines_said}
 use Rattle.history.proofs.ask.answer_lines.Goals as goal
+
+pub loop-lines-preserved : goal.loop-lines-preserved
+loop-lines-preserved c =
+    let q = c.in-Some.question in
+    let s = now c.next_question.new.self in
+    let lines = vec_items c.loop-lines.lines in
+    answered_more c.loop-lines.invariant (record { about = s; question = q }) (left c.next_question.new.self) _ (rw c.in-Some.is at c.in_ok-question.ensures.value)
+    (λ done h. text_more line_to lines _ done _
+    (c.in_ok-extend_from_slice.ensures.items
+    ∙ ap (λ t. lines ++ t) (c.line.ensures ∙ ap line_of (c.can_share.ensures.value ∙ ap (λ t. can_share t q.holder q.right q.target) c.book.ensures))) h)
 
 pub returns : goal.returns
 returns c =
-    let records = vec_items c.in_ok-lines.field-0.records in
-    lines_said c.args.bytes.now (λ i. (c.type_inv.bytes i).fits) (vec_items c.in_ok-lines.field-0.lines) records c.in_ok-lines.ensures
+    lines_said c.args.bytes.now (λ i. (c.type_inv.bytes i).fits) c.loop-lines.invariant.done
+    (answered_all c.loop-lines.invariant (rw c.in_default.is at c.in_ok-question.ensures.value)) _ c.loop-lines.invariant.told

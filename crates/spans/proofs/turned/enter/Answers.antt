@@ -1,7 +1,7 @@
 use Rattle.std.proofs.Common.{arith, length-set}
 use Rattle.bits.specs.Sets.{holds}
 use Rattle.graph.specs.Table.{in_row}
-use Rattle.spans.proofs.Walk.{fewer}
+use Rattle.bits.proofs.Walk.{fewer}
 use Rattle.spans.proofs.Entered.{entered_none, entered_more, entered_all}
 use Rattle.spans.proofs.turned.enter.Goals as goal
 

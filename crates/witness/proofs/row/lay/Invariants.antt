@@ -6,4 +6,4 @@ use Rattle.witness.proofs.Layers.{Laid}
 use Rattle.witness.proofs.row.lay.Given as goal
 
 abbrev pub invariant-loop-k : goal.invariant-loop-k
-invariant-loop-k l = (length l.layers ≡ 256) × Laid (turned l.back) l.size l.x l.y (holds l.near) (holds l.fresh) (in_row l.layers) l.k
+invariant-loop-k l = (length l.room ≡ 256) × Laid (turned l.back) l.size l.x l.y (holds l.near) (holds l.fresh) (in_row l.room) l.k

@@ -1,24 +1,13 @@
-use Rattle.std.proofs.Common.{◌≡◌, refl, subst, arith, length-set}
+use Rattle.std.proofs.Common.{◌∙◌, rules, arith}
 use Rattle.graph.specs.Graphs.{state}
-use Rattle.graph.specs.Table.{in_row}
-use Rattle.graph.proofs.Rows.{bare_row}
+use Rattle.graph.proofs.Sound.{few_vertices}
 use Rattle.model.specs.Spans.{bridge}
 use Rattle.model.proofs.Readings.{bridge_to, subject_vertex}
-use Rattle.witness.proofs.Bridging.{Filled, filled_none, filled_more, filled_all}
+use Rattle.witness.proofs.Tabled.{tabled}
 use Rattle.witness.proofs.tables.bridges.Goals as goal
-
-pub loop-p-init : goal.loop-p-init
-loop-p-init c =
-    (refl, filled_none (bridge (state c.args.graph.now)) _ (bare_row c.empty-sets.result c.empty-sets.ensures 256))
-
-pub loop-p-preserved : goal.loop-p-preserved
-loop-p-preserved c =
-    let size = c.loop-p.invariant.0 in
-    (simp length-set size, filled_more (bridge (state c.args.graph.now)) c.loop-p.sets c.loop-p.p c.bridges_from.result (omega arith) c.bridges_from.ensures c.loop-p.invariant.1)
 
 pub returns : goal.returns
 returns c =
-    let s = state c.args.graph.now in
-    let end : c.loop-p.p ≡ s.size = omega (arith, c.size-p-end.ensures.value) in
-    filled_all (bridge s) (in_row c.loop-p.sets) s.size (λ p q t. subject_vertex s p (bridge_to s p q t).one)
-    (subst (Filled (bridge s) (in_row c.loop-p.sets)) end c.loop-p.invariant.1)
+    let g = c.args.graph.now in
+    tabled c.each.result (bridge (state g)) (λ p q t. omega (arith, subject_vertex (state g) p (bridge_to (state g) p q t).one, few_vertices g)) c.each.ensures.past
+    (λ p h q. let row = c.each.ensures.rows p h in row.2 q ∙ search (rules, row.1))

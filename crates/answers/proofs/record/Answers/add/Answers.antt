@@ -1,11 +1,10 @@
-use Rattle.std.proofs.Common.{◌≡◌, ℕ, ◌-◌, ◌≤◌, Bool, ◌++◌, length, drop, vec_items, sym, ap, ◌∙◌, subst, arith, rules}
+use Rattle.std.proofs.Common.{◌≡◌, ℕ, ◌≤◌, Bool, ◌++◌, length, drop, vec_items, sym, ap, ◌∙◌, subst, arith, rules}
 use mathlib.Core.Path.{fun_ext}
 use Rattle.codec.specs.Writing.{Appended}
 use Rattle.model.specs.Bounded.{only}
 use Rattle.bits.specs.Sets.{holds}
 use Rattle.model.specs.Certificates.{Certificate, certificate_of}
-use Rattle.model.specs.Exact.{exact_witness}
-use Rattle.witness.specs.Answers.{yes_bytes}
+use Rattle.witness.specs.Answers.{witness_of, yes_bytes}
 use Rattle.witness.specs.Of.{routed}
 use Rattle.answers.specs.Lines.{answer_to, line_of}
 use Rattle.answers.specs.Records.{no_bytes, record_of}
@@ -14,35 +13,35 @@ use Rattle.answers.proofs.record.Answers.add.Goals as goal
 
 pub slice_bounds-extend_from_slice-end : goal.slice_bounds-extend_from_slice-end
 slice_bounds-extend_from_slice-end c =
-    let h : c.in-Written.n ≤ length c.write_witness.new.out = omega (arith, c.in-Written.ensures.value.room, c.write_witness.auto.out) in
+    let h : c.in-Ok.n ≤ length c.write_witness.new.out = omega (arith, c.in-Ok.ensures.value.room, c.write_witness.auto.out) in
     search rules
 
-pub returns-in_ok-extend_from_slice-in-Written : goal.returns-in_ok-extend_from_slice-in-Written
-returns-in_ok-extend_from_slice-in-Written c =
+pub returns-in_ok-extend_from_slice-in-Ok : goal.returns-in_ok-extend_from_slice-in-Ok
+returns-in_ok-extend_from_slice-in-Ok c =
     let s = routed c.args.routes.now in
     let q = c.args.question in
-    let w = c.in-Written.ensures.value in
+    let w = c.in-Ok.ensures.value in
     let before = vec_items c.args.self.now.lines in
     record {
-      lines = kept_so c.extend_from_slice-in-Written.result before (vec_items c.extend_from_slice.new.self) (line_of (answer_to s q)) (c.in_ok-extend_from_slice-in-Written.ensures.items ∙ ap (λ t. before ++ t) (c.line.ensures ∙ sym (yes_line s q w.shared)));
+      lines = kept_so c.extend_from_slice-in-Ok.result before (vec_items c.extend_from_slice.new.self) (line_of (answer_to s q)) (c.in_ok-extend_from_slice-in-Ok.ensures.items ∙ ap (λ t. before ++ t) (c.line.ensures ∙ sym (yes_line s q w.shared)));
       records =
-          extended_once c.extend_from_slice-in-Written.result (vec_items c.args.self.now.records) (vec_items c.extend_from_slice-in-Written.new.self) _ (record_of s q)
-          c.extend_from_slice-in-Written.ensures.items
-          (front_of (yes_bytes (exact_witness s q.holder q.right q.target)) (drop c.in-Written.n c.args.room.now) c.write_witness.new.out (c.in-Written.n - 0) (omega (arith, w.size)) w.bytes ∙ sym (yes_record s q w.shared));
+          extended_once c.extend_from_slice-in-Ok.result (vec_items c.args.self.now.records) (vec_items c.extend_from_slice-in-Ok.new.self) _ (record_of s q)
+          c.extend_from_slice-in-Ok.ensures.items
+          (front_of (yes_bytes (witness_of s q)) (drop c.in-Ok.n c.args.room.now) c.write_witness.new.out c.in-Ok.n (omega (arith, w.size)) w.bytes ∙ sym (yes_record s q w.shared));
     }
 
-pub returns-in_ok-extend_from_slice-in-Never : goal.returns-in_ok-extend_from_slice-in-Never
-returns-in_ok-extend_from_slice-in-Never c =
+pub returns-in_ok-extend_from_slice-in-Err-Never : goal.returns-in_ok-extend_from_slice-in-Err-Never
+returns-in_ok-extend_from_slice-in-Err-Never c =
     let s = routed c.args.routes.now in
     let q = c.args.question in
     let x = q.holder in
-    let said = c.in-Never.ensures.value in
+    let said = rw c.in-Err-Never.field-0-is at c.in-Err-Never.ensures.value in
     let unshared = said.unshared in
     let before = vec_items c.args.self.now.lines in
     let found = said.round in
-    let barrier = c.in-Never.barrier in
+    let barrier = c.in-Err-Never.barrier in
     record {
-      lines = kept_so c.write_sheet.result before (vec_items c.extend_from_slice-in-Never.new.self) (line_of (answer_to s q)) (c.in_ok-extend_from_slice-in-Never.ensures.items ∙ ap (λ t. before ++ t) (c.line-in-Never.ensures ∙ sym (ap line_of unshared)));
+      lines = kept_so c.write_sheet.result before (vec_items c.extend_from_slice-in-Err-Never.new.self) (line_of (answer_to s q)) (c.in_ok-extend_from_slice-in-Err-Never.ensures.items ∙ ap (λ t. before ++ t) (c.line-in-Err-Never.ensures ∙ sym (ap line_of unshared)));
       records =
           subst (Appended c.write_sheet.result (vec_items c.args.self.now.records) (vec_items c.write_sheet.new.out))
           (sheet_is (holds barrier.inner) (holds barrier.out) (holds barrier.into) (certificate_of s (only x)) (fun_ext found.inner) (fun_ext found.out) (fun_ext found.into)

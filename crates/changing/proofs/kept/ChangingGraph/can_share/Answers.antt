@@ -5,21 +5,26 @@ use Rattle.changing.specs.Of.{tracked}
 use Rattle.changing.proofs.Shared.{shared_by_out, shared_past, shared_held}
 use Rattle.changing.proofs.kept.ChangingGraph.can_share.Goals as goal
 
-pub returns-then-x-size : goal.returns-then-x-size
-returns-then-x-size c =
+pub returns-then-q-size : goal.returns-then-q-size
+returns-then-q-size c =
     let g = c.args.self.now.graph in
-    record { value = sym (shared_past (tracked c.args.self.now) (well_formed-law g) (few_vertices g) c.args.x c.args.r c.args.y (omega (arith, c.size.ensures.value))) }
+    let q = c.args.q in
+    record {
+      value = sym (shared_past (tracked c.args.self.now) (well_formed-law g) (few_vertices g) q.holder q.right q.target (omega (arith, c.size.ensures.value)));
+    }
 
 pub returns-then-has : goal.returns-then-has
 returns-then-has c =
-    record { value = c.if-has.true ∙ shared_held (tracked c.args.self.now) c.args.x c.args.r c.args.y c.if-has.ensures.value }
+    let q = c.args.q in
+    record { value = c.if-has.true ∙ shared_held (tracked c.args.self.now) q.holder q.right q.target c.if-has.ensures.value }
 
 pub returns-else-has : goal.returns-else-has
 returns-else-has c =
     let g = c.args.self.now.graph in
+    let q = c.args.q in
     record {
       value =
           c.one_has.ensures.value
-          ∙ shared_by_out (tracked c.args.self.now) (well_formed-law g) (few_vertices g) c.args.x c.args.r c.args.y (holds c.out_of.result)
+          ∙ shared_by_out (tracked c.args.self.now) (well_formed-law g) (few_vertices g) q.holder q.right q.target (holds c.out_of.result)
           (omega (arith, c.size.ensures.value)) c.if-has.ensures.value c.out_of.ensures.value;
     }

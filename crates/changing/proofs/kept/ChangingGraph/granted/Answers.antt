@@ -1,22 +1,22 @@
-use Rattle.std.proofs.Common.{◌||◌, ap, ◌∙◌, arith}
+use Rattle.std.proofs.Common.{◌≡◌, ℕ, ◌||◌, sym, ap, ◌∙◌, rules}
+use Rattle.std.specs.List.{list_any}
+use Rattle.std.proofs.lemmas.Fn.{fold_over}
 use Rattle.bits.specs.Sets.{holds}
-use Rattle.model.proofs.Tests.{from_true}
-use Rattle.spans.proofs.Walk.{fewer}
-use Rattle.changing.proofs.Gathered.{gathered_none, gathered_more, gathered_all}
+use Rattle.bits.proofs.Chain.{walk, YieldsList-from_members, any_members, any_more}
+use Rattle.model.specs.Spans.{can_grant}
+use Rattle.changing.specs.Of.{tracked}
+use Rattle.changing.specs.Reached.{of_some}
 use Rattle.changing.proofs.kept.ChangingGraph.granted.Goals as goal
 
-pub loop-o-init : goal.loop-o-init
-loop-o-init c = gathered_none _ _ (holds c.empty-all.result) c.empty-all.ensures
-
-pub loop-o-preserved : goal.loop-o-preserved
-loop-o-preserved c =
-    gathered_more _ _ (holds c.loop-o.all) (holds c.loop-o.rest) (holds c.union-all.result) (holds c.remove.new.self) c.in-Some.o (omega arith)
-    (from_true (holds c.loop-o.rest c.in-Some.o) c.in-Some.ensures.0) c.remove.ensures
-    (λ y. c.union-all.ensures y ∙ ap (λ b. holds c.loop-o.all y || b) (c.targets.ensures.value y)) c.loop-o.invariant
-
-pub loop-o-smaller : goal.loop-o-smaller
-loop-o-smaller c =
-    fewer (holds c.loop-o.rest) (holds c.remove.new.self) c.in-Some.o c.remove.ensures 256 (omega arith) c.in-Some.ensures.0
-
 pub returns : goal.returns
-returns c = record { value = gathered_all _ _ (holds c.loop-o.all) (holds c.loop-o.rest) c.in_default.ensures c.loop-o.invariant }
+unfolding of_some
+returns c =
+    let s = tracked c.args.self.now in
+    let road = YieldsList-from_members c.iter.result c.args.set c.iter.ensures in
+    record {
+      value = λ v.
+          fold_over walk (λ x. x) _ (λ ys a. (k : ℕ) → holds a k ≡ list_any (λ t. can_grant s t k) ys) _
+          (λ ys a x b f' inv call. (λ k. let e : holds b k ≡ (holds a k || can_grant s x k) = search rules in e ∙ ap (λ z. z || can_grant s x k) (inv k) ∙ sym (any_more (λ t. can_grant s t k) ys x), search rules))
+          c.iter.result _ _ _ road.runs c.empty.ensures c.fold.ensures.ran v
+          ∙ any_members 256 (holds c.args.set) (λ t. can_grant s t v);
+    }

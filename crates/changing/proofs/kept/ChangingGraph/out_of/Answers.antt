@@ -1,4 +1,5 @@
-use Rattle.std.proofs.Common.{◌≡◌, Bool, true, false, not, ◌&&◌, ◌||◌, eqb, refl, ap, ◌∙◌}
+use Rattle.std.proofs.Common.{not, ◌&&◌, ap, ◌∙◌, arith}
+use Rattle.std.proofs.lemmas.Bool.Decides.{nat_tests}
 use Rattle.bits.specs.Sets.{holds}
 use Rattle.graph.proofs.Sound.{well_formed-law, few_vertices, only_subjects}
 use Rattle.changing.specs.Of.{tracked}
@@ -6,16 +7,12 @@ use Rattle.changing.proofs.Gathered.{holds_below}
 use Rattle.changing.proofs.Searching.{searching_none, searching_more, found_out, fewer_left, none_fresh}
 use Rattle.changing.proofs.kept.ChangingGraph.out_of.Goals as goal
 
-or_false : (a b : Bool) → b ≡ false → (a || b) ≡ a
-or_false true b e = refl
-or_false false b e = e
-
 pub loop-entries-init : goal.loop-entries-init
 loop-entries-init c =
     let g = c.args.self.now.graph in
     searching_none (tracked c.args.self.now) (well_formed-law g) (few_vertices g) c.args.x (holds c.empty-out.result) (holds c.givers-entries.result)
     (holds c.insert.new.self) c.empty-out.ensures
-    (λ p. c.insert.ensures p ∙ or_false (eqb p c.args.x) _ (c.empty-holder.ensures p)) c.givers-entries.ensures.value
+    (λ p. let one = c.insert.ensures p in let none = c.empty-holder.ensures p in grind (arith, nat_tests)) c.givers-entries.ensures.value
 
 pub returns-then-is_empty : goal.returns-then-is_empty
 returns-then-is_empty c =
@@ -32,8 +29,8 @@ returns-then-is_empty c =
 
 pub loop-entries-smaller : goal.loop-entries-smaller
 loop-entries-smaller c =
-    fewer_left (holds c.loop-entries.out) (holds c.reached.result) (holds c.difference-fresh.result) (holds c.union-out.result)
-    c.difference-fresh.ensures c.union-out.ensures c.if-is_empty.ensures
+    fewer_left (holds c.loop-entries.out) (holds c.reached.result) (holds c.difference-fresh.result) (holds c.add.new.self)
+    c.difference-fresh.ensures c.add.ensures c.if-is_empty.ensures
 
 pub loop-entries-preserved : goal.loop-entries-preserved
 loop-entries-preserved c =
@@ -42,5 +39,5 @@ loop-entries-preserved c =
     searching_more (tracked c.args.self.now) (well_formed-law g) (few_vertices g) c.args.x out (holds c.loop-entries.entries) (holds c.difference-others.result)
     (holds c.reached.result) (holds c.difference-fresh.result) c.loop-entries.invariant
     (λ q. c.difference-others.ensures q ∙ ap (λ b. b && not (out q)) (c.subjects.ensures.value q ∙ only_subjects g q))
-    c.reached.ensures.value c.difference-fresh.ensures (holds c.union-out.result) (holds c.union-entries.result) (holds c.beside.result)
-    c.union-out.ensures c.beside.ensures.value c.union-entries.ensures
+    c.reached.ensures.value c.difference-fresh.ensures (holds c.add.new.self) (holds c.add-in-loop-entries.new.self) (holds c.beside.result)
+    c.add.ensures c.beside.ensures.value c.add-in-loop-entries.ensures

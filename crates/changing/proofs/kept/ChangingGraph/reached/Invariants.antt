@@ -1,6 +1,6 @@
 use Rattle.std.proofs.Common.{◌&&◌}
+use Rattle.bits.specs.Members.{left}
 use Rattle.bits.specs.Sets.{holds}
-use Rattle.model.specs.Bounded.{count_below}
 use Rattle.spans.specs.Paths.{path_from}
 use Rattle.changing.specs.Of.{tracked}
 use Rattle.changing.specs.Reached.{leads_into}
@@ -9,7 +9,4 @@ use Rattle.changing.proofs.kept.ChangingGraph.reached.Given as goal
 
 abbrev pub invariant-loop-q : goal.invariant-loop-q
 invariant-loop-q l =
-    Gathered (holds l.initial.rest) (λ q t. leads_into (tracked l.self) (holds l.set) q && path_from (tracked l.self) q t) (holds l.all) (holds l.rest)
-
-abbrev pub decreases-loop-q : goal.decreases-loop-q
-decreases-loop-q l = count_below 256 (holds l.rest)
+    Gathered (holds l.fn.from) (λ q t. leads_into (tracked l.self) (holds l.set) q && path_from (tracked l.self) q t) (holds l.all) (holds (left l.q-iterator))

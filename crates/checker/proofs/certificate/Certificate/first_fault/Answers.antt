@@ -13,7 +13,7 @@ pub loop-p-init : goal.loop-p-init
 loop-p-init c = c.nothing-looked.ensures ∙ looked_none _ _ _ _ _
 
 pub loop-p-preserved : goal.loop-p-preserved
-loop-p-preserved c = looked_more (state c.args.graph.now) (holds c.args.claim.now.holders) c.args.claim.now.right (holds c.args.claim.now.targets) (certificate c.args.self.now) c.loop-p.p _ _ _ c.loop-p.invariant c.look.ensures c.seen-looked.ensures
+loop-p-preserved c = looked_more (state c.args.graph.now) (holds c.args.claim.now.holders) c.args.claim.now.right (holds c.args.claim.now.targets) (certificate c.args.self.now) c.loop-p.p _ _ _ c.loop-p.invariant c.at.ensures c.seen-looked.ensures
 
 pub returns : goal.returns
 returns c =

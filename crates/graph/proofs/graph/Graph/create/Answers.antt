@@ -9,21 +9,21 @@ use Rattle.graph.proofs.graph.Graph.create.Goals as goal
 pub returns-then-new : goal.returns-then-new
 returns-then-new c =
     record {
-      value = answered c.args.self.now (Create c.args.c) c.if-not-is_subject.ensures.value true (eq-eqb (state c.args.self.now).size 255 (sym c.size-new.ensures.value ∙ c.if-new.true));
+      value = answered c.args.self.now (Create c.args.c) c.requires true (eq-eqb (state c.args.self.now).size 255 (sym c.size-new.ensures.value ∙ c.if-new.true));
       after = refl;
       same = λ e. refl;
     }
 
 pub give_all-requires : goal.give_all-requires
 give_all-requires c =
-    let l = create_there c.args.self.now (Create c.args.c) c.if-not-is_subject.ensures.value c.args.c refl in
+    let l = create_there c.args.self.now (Create c.args.c) c.requires c.args.c refl in
     let e = ap (λ s. s.size) c.grow.ensures.after in
     (omega (arith, l, e), omega (arith, e, c.size-new.ensures.value))
 
 pub returns : goal.returns
 returns c =
     record {
-      value = answered c.args.self.now (Create c.args.c) c.if-not-is_subject.ensures.value false (ne_eqb (state c.args.self.now).size 255 (λ e. c.if-new.false (c.size-new.ensures.value ∙ e)));
+      value = answered c.args.self.now (Create c.args.c) c.requires false (ne_eqb (state c.args.self.now).size 255 (λ e. c.if-new.false (c.size-new.ensures.value ∙ e)));
       after =
           c.give_all.ensures.after ∙
           (ap₂ (λ n s. gifted c.args.c.who c.args.c.rights n 8 s) c.size-new.ensures.value c.grow.ensures.after ∙

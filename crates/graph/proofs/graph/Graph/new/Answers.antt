@@ -4,12 +4,11 @@ use borrow.Author.Tests.{both_ways}
 use Rattle.std.proofs.lemmas.Bool.{cases_lt}
 use Rattle.model.specs.Bounded.{all_below, implies}
 use Rattle.model.proofs.Tests.{all_at, all_from, implied, implying, is_true}
-use Rattle.bits.specs.Sets.{holds}
-use Rattle.bits.specs.declared.set.VertexSet.{VertexSet}
-use Rattle.bits.proofs.Holds.{holds_past}
+use Rattle.bits.specs.Sets.{holds, VertexSet}
+use Rattle.bits.proofs.Holds.{below_fits, holds_past}
 use Rattle.graph.specs.Graphs.{state}
 use Rattle.graph.specs.Table.{SubjectsFit}
-use Rattle.graph.proofs.Rows.{bare_row, bare_table}
+use Rattle.graph.proofs.Rows.{bare_table, whole_of}
 use Rattle.graph.proofs.States.{same_state}
 use Rattle.graph.proofs.graph.Graph.new.Goals as goal
 use Rattle.graph.proofs.graph.Graph.new.Goals.{then-size-eq0-via-then-size-eq0, then-size-eq0-via-else-size-eq0+then-not-is_subset}
@@ -31,7 +30,7 @@ returns-then-size-eq0 c =
     record {
       cases = λ f. elim c.then-size-eq0.branch [
         | then-size-eq0-via-then-size-eq0 w ↦ omega (arith, f.0, w.if-size-eq0.true)
-        | then-size-eq0-via-else-size-eq0+then-not-is_subset w ↦ both_ways w.is_subset.result w.if-not-is_subset.true (fit_test c.args.subjects w.below.result c.args.size w.is_subset.result w.below.ensures w.is_subset.ensures f.1)
+        | then-size-eq0-via-else-size-eq0+then-not-is_subset w ↦ both_ways w.is_subset.result w.if-not-is_subset.true (fit_test c.args.subjects w.below.result c.args.size w.is_subset.result (below_fits 4 c.args.size w.below.result (omega arith) w.below.ensures) w.is_subset.ensures f.1)
       ];
     }
 
@@ -40,10 +39,11 @@ invariant_of-result c =
     record {
       some = omega (arith, c.if-size-eq0.false);
       few = search rules;
-      acting = fit c.args.subjects c.below.result c.args.size c.is_subset.result c.below.ensures c.is_subset.ensures c.if-not-is_subset.false;
-      held = (λ i q t. absurd (subst T (bare_row c.empty-rows.result c.empty-rows.ensures 2048 i q) t));
+      acting = fit c.args.subjects c.below.result c.args.size c.is_subset.result (below_fits 4 c.args.size c.below.result (omega arith) c.below.ensures) c.is_subset.ensures c.if-not-is_subset.false;
+      whole = whole_of 256 c.empty.result;
+      held = (λ p r q t. absurd (subst T (bare_table c.empty.result c.empty.ensures 256 8 p r q) t));
     }
 
 pub returns : goal.returns
 unfolding state
-returns c = record { cases = same_state c.args.size (holds c.args.subjects) _ _ (λ p r q. bare_table c.empty-rows.result c.empty-rows.ensures 2048 p r q) }
+returns c = record { cases = same_state c.args.size (holds c.args.subjects) _ _ (λ p r q. bare_table c.empty.result c.empty.ensures 256 8 p r q) }

@@ -2,6 +2,8 @@ use Rattle.std.proofs.Common.{rules}
 use Rattle.bits.specs.Sets.{holds}
 use Rattle.graph.specs.Graphs.{state}
 use Rattle.graph.specs.Table.{in_row}
+use Rattle.graph.proofs.Rows.{whole_with}
+use Rattle.graph.proofs.Sound.{eight}
 use Rattle.graph.proofs.States.{state_without, fit_without, nothing_there}
 use Rattle.graph.proofs.graph.Graph.withdraw.Goals as goal
 
@@ -12,8 +14,9 @@ invariant_of-self c =
       some = c.args.self.now.some;
       few = c.args.self.now.few;
       acting = c.args.self.now.acting;
-      held = fit_without c.args.self.now.size c.args.self.now.rows c.args.p c.args.r c.args.q c.row.result c.remove.new.self
-          c.args.self.now.held c.row.ensures c.if-r-lt-RIGHTS.true (search rules) c.requires c.remove.ensures;
+      whole = whole_with c.args.self.now.rows c.args.p c.args.r c.remove.new.self c.args.self.now.whole (search rules);
+      held = fit_without c.args.self.now.size c.args.self.now.rows c.args.p c.args.r c.args.q c.remove.new.self
+          c.args.self.now.held c.if-r-lt-RIGHTS.true (search rules) (eight c.args.self.now c.args.p c.args.r (search rules) c.if-r-lt-RIGHTS.true) c.requires c.remove.ensures;
     }
 
 pub returns-then-r-lt-RIGHTS : goal.returns-then-r-lt-RIGHTS
@@ -22,7 +25,7 @@ returns-then-r-lt-RIGHTS c =
     record {
       after =
           state_without c.args.self.now.size (holds c.args.self.now.subjects) c.args.self.now.rows c.args.p c.args.r c.args.q
-          c.row.result c.remove.new.self c.row.ensures c.if-r-lt-RIGHTS.true (search rules) c.remove.ensures;
+          c.remove.new.self c.if-r-lt-RIGHTS.true (search rules) (eight c.args.self.now c.args.p c.args.r (search rules) c.if-r-lt-RIGHTS.true) c.remove.ensures;
     }
 
 pub returns-else-r-lt-RIGHTS : goal.returns-else-r-lt-RIGHTS

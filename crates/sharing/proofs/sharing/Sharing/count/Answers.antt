@@ -1,4 +1,4 @@
-use Rattle.std.proofs.Common.{◌+◌, ◌*◌, length, sym, ap, ◌∙◌, inl, inr, arith}
+use Rattle.std.proofs.Common.{◌+◌, ◌*◌, ◌≤◌, length, sym, ap, ◌∙◌, subst, ap₂, inl, inr, arith}
 use Rattle.bits.specs.Rows.{cell}
 use Rattle.model.specs.Sharing.{can_share}
 use Rattle.spans.specs.Paths.{row_words}
@@ -23,8 +23,9 @@ pub row_count-requires : goal.row_count-requires
 row_count-requires c =
     let size = c.size-n.ensures.value in
     let most = words_most c.size-n.result in (
-      row_there c.size-n.result c.width.result (length c.args.self.now.rows.now) c.args.y c.args.r c.width.ensures
-          (omega (arith, c.args.self.now.fits, ap table_words size)) (omega arith) (omega arith),
+      subst (λ i. i * c.width.result + c.width.result ≤ length c.args.self.now.rows.now) (sym c.row.ensures)
+          (row_there c.size-n.result c.width.result (length c.args.self.now.rows.now) c.args.y c.args.r c.width.ensures
+          (omega (arith, c.args.self.now.fits, ap table_words size)) (omega arith) (omega arith)),
       omega (arith, c.width.ensures),
     )
 
@@ -37,7 +38,7 @@ returns c =
           c.row_count.ensures
           ∙ count_stops (64 * c.width.result) (answered c.args.self.now).size _ (λ x. can_share (answered c.args.self.now) x c.args.r c.args.y) (omega arith)
           (λ x.
-          ap (λ w. cell c.args.self.now.rows.now w (8 * c.args.y + c.args.r) x) (c.width.ensures ∙ ap row_words size)
+          ap₂ (λ w i. cell c.args.self.now.rows.now w i x) (c.width.ensures ∙ ap row_words size) c.row.ensures
           ∙ c.args.self.now.shared (8 * c.args.y + c.args.r) x
           ∙ row_says (answered c.args.self.now) x c.args.r c.args.y (omega arith))
           (λ x l. not_there c.args.self.now.graph.now x c.args.r c.args.y (λ h. let a = h.0 in omega arith));

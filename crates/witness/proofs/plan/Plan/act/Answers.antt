@@ -1,22 +1,28 @@
-use Rattle.std.proofs.Common.{refl, arith}
-use Rattle.witness.proofs.Acted.{acted, no_end, no_space, refused}
+use Rattle.std.proofs.Common.{refl}
+use Rattle.witness.proofs.Acted.{acted, no_space, refused}
+use Rattle.witness.proofs.Going.{stopped}
 use Rattle.witness.proofs.plan.Plan.act.Goals as goal
 
-pub returns-then-at-out : goal.returns-then-at-out
-returns-then-at-out c = record { goes = λ b w was at. no_end b w c.args.self.now was c.args.out.now c.args.rule at (omega arith) }
+pub returns-in_err-count : goal.returns-in_err-count
+returns-in_err-count c =
+    record {
+      goes = λ b w was at.
+          stopped b _ c.from_residual.result c.args.self.now was _ c.from_residual.ensures.0
+          (no_space b w c.args.self.now was c.args.out.now c.args.rule at _ refl c.in_err-count.ensures);
+    }
 
-pub returns-in_default : goal.returns-in_default
-returns-in_default c =
-    record { goes = λ b w was at. no_space b w c.args.self.now was c.args.out.now c.args.rule at _ refl c.in_default.ensures }
-
-pub returns-in_default-apply : goal.returns-in_default-apply
-returns-in_default-apply c =
-    record { goes = λ b w was at. refused b w c.args.self.now was c.args.out.now c.args.rule at c.apply.result c.apply.ensures.value c.in_default-apply.not-Done }
+pub returns-in_err-apply : goal.returns-in_err-apply
+returns-in_err-apply c =
+    record {
+      goes = λ b w was at.
+          stopped b _ c.from_residual-in_err-apply.result _ was _ c.from_residual-in_err-apply.ensures.0
+          (refused b w c.args.self.now was c.args.out.now c.args.rule at _ c.in_err-apply.ensures.value);
+    }
 
 pub returns : goal.returns
 returns c =
     record {
       goes = λ b w was at.
-          acted b w c.args.self.now was c.args.out.now c.args.rule at _ c.in-Some.count _ c.write_act.new.free
-          c.in-Done.ensures.value c.in-Done.ensures.after refl refl c.in-Some.ensures.0 refl c.in-Some.ensures.2;
+          acted b w c.args.self.now was c.args.out.now c.args.rule at _ c.in_ok-count.count _ c.write_act.new.free refl
+          c.in_ok-apply.ensures.value c.in_ok-apply.ensures.after refl refl c.in_ok-count.ensures.0 refl c.in_ok-count.ensures.2;
     }

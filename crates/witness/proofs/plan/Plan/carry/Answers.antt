@@ -1,53 +1,49 @@
-use Rattle.std.proofs.Common.{ℕ, List, length, refl, ◌∙◌, subst}
-use Rattle.std.proofs.lemmas.Result.{err_from_is_err_and}
+use Rattle.std.proofs.Common.{ℕ, List, length, refl, ap, ◌∙◌, subst}
+use Rattle.model.specs.State.{State}
 use Rattle.model.specs.Spans.{bridge}
-use Rattle.model.specs.Exact.{taking_to, over_row, handed_to, shortest_row_of}
-use Rattle.witness.specs.Of.{routed}
+use Rattle.model.specs.Exact.{handed_to, over_row, shortest_row_of, taking_to}
 use Rattle.witness.specs.Plans.{Goes, Halted}
-use Rattle.witness.proofs.Going.{grows_not, halted_on, relaid}
 use Rattle.witness.proofs.Crossing.{grows_row, grows_handed}
+use Rattle.witness.proofs.Going.{grows_not, halted_on, relaid, stopped, stops}
 use Rattle.witness.proofs.plan.Plan.carry.Goals as goal
 
 pub returns-in_err-take_to : goal.returns-in_err-take_to
 returns-in_err-take_to c =
-    let a = c.args in
-    let e = a.ends in
-    let s = routed a.routes.now in
-    rw (err_from_is_err_and c.from_residual.result c.from_residual.ensures.1).1
-    (record {
-      goes = λ b w was at.
-          let w1 = taking_to s e.last e.holder a.r a.y w in
-          let row = shortest_row_of s.size (bridge s) e.last e.first in
-          halted_on b (length was) w1 _
-          (grows_handed s w1 (over_row s e.last row a.r a.y w1) e.first a.x a.r a.y (grows_row s w1 w1 e.last row a.r a.y (grows_not w1)))
-          (c.in_err-take_to.ensures.goes b w was at);
-    })
+    let q = c.args.question in
+    let e = c.args.ends in
+    record {
+      goes = stops (λ b. taking_to b e.last e.holder q.right q.target)
+          (λ b w. handed_to b e.first q.holder q.right q.target (over_row b e.last (shortest_row_of b.size (bridge b) e.last e.first) q.right q.target w)) _ _ _
+          (λ b v w g. grows_handed b v _ e.first q.holder q.right q.target (grows_row b v w e.last (shortest_row_of b.size (bridge b) e.last e.first) q.right q.target g))
+          c.in_err-take_to.ensures.goes c.from_residual.ensures.0;
+    }
 
 pub returns-in_err-over_row : goal.returns-in_err-over_row
 returns-in_err-over_row c =
-    let a = c.args in
-    let e = a.ends in
-    let s = routed a.routes.now in
-    rw (err_from_is_err_and c.from_residual-in_err-over_row.result c.from_residual-in_err-over_row.ensures.1).1
-    (record {
+    let q = c.args.question in
+    let e = c.args.ends in
+    record {
       goes = λ b w was at.
-          let w1 = taking_to s e.last e.holder a.r a.y w in
-          let w2 = over_row s e.last (shortest_row_of s.size (bridge s) e.last e.first) a.r a.y w1 in
-          halted_on b (length was) w2 _ (grows_handed s w2 w2 e.first a.x a.r a.y (grows_not w2))
-          (subst (λ (row : List ℕ). Halted b (length was) (over_row s e.last row a.r a.y w1)) (c.vertices.ensures ∙ c.row-row.ensures.value)
-          (c.in_err-over_row.ensures.goes b w1 was (relaid b w1 c.take_to.new.self was c.take_to.new.out (c.in_ok-take_to.ensures.goes b w was at) _ refl refl refl)));
-    })
+          let mid = c.in_ok-take_to.ensures.goes b w was at in
+          let w1 = taking_to b e.last e.holder q.right q.target w in
+          let w2 = over_row b e.last c.deref.result.now q.right q.target w1 in
+          stopped b _ c.from_residual-in_err-over_row.result _ was _ c.from_residual-in_err-over_row.ensures.0
+          (subst (λ (row : List ℕ). Halted b (length was) (handed_to b e.first q.holder q.right q.target (over_row b e.last row q.right q.target w1)))
+          (c.deref.ensures.0 ∙ c.row-row.ensures.value ∙ ap (λ (z : State). shortest_row_of z.size (bridge z) e.last e.first) mid.about)
+          (halted_on b (length was) w2 _ (grows_handed b w2 w2 e.first q.holder q.right q.target (grows_not w2))
+          (c.in_err-over_row.ensures.goes b w1 was (relaid b w1 c.take_to.new.self was c.take_to.new.out mid _ refl refl refl refl))));
+    }
 
 pub returns : goal.returns
 returns c =
-    let a = c.args in
-    let e = a.ends in
-    let s = routed a.routes.now in
+    let q = c.args.question in
+    let e = c.args.ends in
     record {
       goes = λ b w was at.
-          let w1 = taking_to s e.last e.holder a.r a.y w in
-          let w2 = over_row s e.last c.vertices.result.now a.r a.y w1 in
-          subst (λ (row : List ℕ). Goes b (handed_to s e.first a.x a.r a.y (over_row s e.last row a.r a.y w1)) c.hand_to.result c.hand_to.new.self was c.hand_to.new.out)
-          (c.vertices.ensures ∙ c.row-row.ensures.value)
-          (c.hand_to.ensures.goes b w2 was (c.in_ok-over_row.ensures.goes b w1 was (relaid b w1 c.take_to.new.self was c.take_to.new.out (c.in_ok-take_to.ensures.goes b w was at) _ refl refl refl)));
+          let mid = c.in_ok-take_to.ensures.goes b w was at in
+          let w1 = taking_to b e.last e.holder q.right q.target w in
+          subst (λ (row : List ℕ). Goes b (handed_to b e.first q.holder q.right q.target (over_row b e.last row q.right q.target w1)) c.hand_to.result c.hand_to.new.self was c.hand_to.new.out)
+          (c.deref.ensures.0 ∙ c.row-row.ensures.value ∙ ap (λ (z : State). shortest_row_of z.size (bridge z) e.last e.first) mid.about)
+          (c.hand_to.ensures.goes b _ was
+          (c.in_ok-over_row.ensures.goes b w1 was (relaid b w1 c.take_to.new.self was c.take_to.new.out mid _ refl refl refl refl)));
     }

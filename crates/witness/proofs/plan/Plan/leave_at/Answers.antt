@@ -1,44 +1,22 @@
-use Rattle.std.proofs.Common.{length}
-use Rattle.std.proofs.lemmas.Result.{err_from_is_err_and}
-use Rattle.model.specs.Exact.{doing, granting, taking_to}
-use Rattle.witness.specs.Of.{routed}
-use Rattle.witness.proofs.Going.{grows_not, halted_on}
+use Rattle.model.specs.Exact.{taking_unless_held}
+use Rattle.witness.specs.Plans.{given}
 use Rattle.witness.proofs.Along.{grows_held}
-use Rattle.witness.proofs.Crossing.{left_taken}
+use Rattle.witness.proofs.Going.{goes_on, stops}
 use Rattle.witness.proofs.plan.Plan.leave_at.Goals as goal
 
-pub returns-in_err-take_to : goal.returns-in_err-take_to
-returns-in_err-take_to c =
+pub returns-in_err-give : goal.returns-in_err-give
+returns-in_err-give c =
     let a = c.args in
-    let s = routed a.routes.now in
-    rw (err_from_is_err_and c.from_residual.result c.from_residual.ensures.1).1
-    (record {
-      goes = λ b w was at.
-          let w1 = taking_to s a.p a.u 1 a.c w in
-          halted_on b (length was) w1 _ (left_taken s w1 w1 a.p a.q a.c a.r a.y (grows_not w1)) (c.in_err-take_to.ensures.goes b w was at);
-    })
-
-pub returns-in_err-grant : goal.returns-in_err-grant
-returns-in_err-grant c =
-    let a = c.args in
-    let s = routed a.routes.now in
-    rw (err_from_is_err_and c.from_residual-in_err-grant.result c.from_residual-in_err-grant.ensures.1).1
-    (record {
-      goes = λ b w was at.
-          let w1 = taking_to s a.p a.u 1 a.c w in
-          let w2 = doing (granting a.p a.c a.r a.y) w1 in
-          halted_on b (length was) w2 _ (grows_held w2 w2 a.q a.c a.r a.y (grows_not w2))
-          (c.in_err-grant.ensures.goes b w1 was (c.in_ok-take_to.ensures.goes b w was at));
-    })
+    record {
+      goes = stops (λ b. given b a.p a.u a.c a.held.right a.held.to) (λ b. taking_unless_held a.q a.c a.held.right a.held.to) _ _ _
+          (λ b v w. grows_held v w a.q a.c a.held.right a.held.to)
+          c.in_err-give.ensures.goes c.from_residual.ensures.0;
+    }
 
 pub returns : goal.returns
 returns c =
     let a = c.args in
-    let s = routed a.routes.now in
     record {
-      goes = λ b w was at.
-          let w1 = taking_to s a.p a.u 1 a.c w in
-          let w2 = doing (granting a.p a.c a.r a.y) w1 in
-          c.take_unless_held.ensures.goes b w2 was
-          (c.in_ok-grant.ensures.goes b w1 was (c.in_ok-take_to.ensures.goes b w was at));
+      goes = goes_on (λ b. given b a.p a.u a.c a.held.right a.held.to) (λ b. taking_unless_held a.q a.c a.held.right a.held.to) _ _ _
+          c.in_ok-give.ensures.goes c.take_unless_held.ensures.goes;
     }

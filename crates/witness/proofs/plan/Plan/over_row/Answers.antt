@@ -1,40 +1,36 @@
-use Rattle.std.proofs.Common.{◌+◌, get_or, drop, refl, subst, arith, rules}
+use Rattle.std.proofs.Common.{◌+◌, get_or, drop, subst, arith, rules}
 use Rattle.std.proofs.lemmas.List.{drop_all}
-use Rattle.std.proofs.lemmas.Result.{err_from_is_err_and}
 use Rattle.model.specs.Exact.{Work}
-use Rattle.witness.specs.Of.{routed}
 use Rattle.witness.specs.Plans.{At}
 use Rattle.witness.proofs.Along.{rest_more}
 use Rattle.witness.proofs.Crossing.{Over, over_more, over_halted, over_end}
+use Rattle.witness.proofs.Going.{stopped}
 use Rattle.witness.proofs.plan.Plan.over_row.Goals as goal
-
-pub loop-next-init : goal.loop-next-init
-loop-next-init c = (omega arith, λ b w was at. record { so_far = w; stands = at; leads = refl })
 
 pub loop-next-preserved : goal.loop-next-preserved
 loop-next-preserved c = (
   search rules,
   λ b w was at.
       let l = c.loop-next in
+      let h = c.args.held in
       let row = c.args.row.now in
-      let s = routed c.args.routes.now in
-      let so = subst (Over s b c.args.r c.args.y _ l.self was l.out l.at) (rest_more row l.next-index (omega arith)) (l.invariant.1 b w was at) in
-      over_more s b c.args.r c.args.y _ l.self was l.out l.at (get_or row l.next-index 0) (drop (l.next-index + 1) row) so
+      let so = subst (Over b h.right h.to _ l.self was l.out l.at) (rest_more row l.next-index (omega arith)) (l.invariant.1 b w was at) in
+      over_more b h.right h.to _ l.self was l.out l.at (get_or row l.next-index 0) (drop (l.next-index + 1) row) so
       c.over_bridge.new.self c.over_bridge.new.out (c.in_ok-over_bridge.ensures.goes b so.so_far was so.stands),
 )
 
 pub returns-in_err-over_bridge : goal.returns-in_err-over_bridge
 returns-in_err-over_bridge c =
-    rw (err_from_is_err_and c.from_residual.result c.from_residual.ensures.1).1
-    (record {
+    record {
       goes = λ b w was at.
           let l = c.loop-next in
+          let h = c.args.held in
           let row = c.args.row.now in
-          let s = routed c.args.routes.now in
-          let so = subst (Over s b c.args.r c.args.y _ l.self was l.out l.at) (rest_more row l.next-index (omega arith)) (l.invariant.1 b w was at) in
-          over_halted s b c.args.r c.args.y _ l.self was l.out l.at (get_or row l.next-index 0) (drop (l.next-index + 1) row) so
-          (c.in_err-over_bridge.ensures.goes b so.so_far was so.stands);
-    })
+          let so = subst (Over b h.right h.to _ l.self was l.out l.at) (rest_more row l.next-index (omega arith)) (l.invariant.1 b w was at) in
+          stopped b _ c.from_residual.result _ was _ c.from_residual.ensures.0
+          (over_halted b h.right h.to _ l.self was l.out l.at (get_or row l.next-index 0) (drop (l.next-index + 1) row) so
+          (c.in_err-over_bridge.ensures.goes b so.so_far was so.stands));
+    }
 
 pub returns : goal.returns
 returns c =
@@ -44,7 +40,6 @@ returns c =
           let row = c.args.row.now in
           let so = l.invariant.1 b w was at in
           subst (λ (v : Work). At b v l.self was l.out)
-          (over_end (routed c.args.routes.now) b c.args.r c.args.y _ l.self was l.out l.at (drop l.next-index row) so
-          (drop_all l.next-index row c.loop-next-test.false))
+          (over_end b c.args.held.right c.args.held.to _ l.self was l.out l.at (drop l.next-index row) so (drop_all l.next-index row c.loop-next-test.false))
           so.stands;
     }

@@ -9,4 +9,4 @@ abbrev pub invariant-path : goal.invariant-path
 invariant-path l =
     (l.at < 256) ×
     ((b : State) (w : Work) (was : List ℕ) → At b w l.initial.self was l.initial.out →
-    Along b l.p l.r l.z (taking_along l.p l.p l.path l.r l.z w) l.self was l.out l.at (drop l.next-index l.path))
+    Along b l.p l.held.right l.held.to (taking_along l.p l.p l.path l.held.right l.held.to w) l.self was l.out l.at (drop l.next-index l.path))

@@ -22,6 +22,6 @@ returns-else-x-y c =
     let no : eqb x y ≡ false = ne_eqb x y (λ e. omega arith) in
     record {
       value =
-          c.leads.ensures.value ∙ r.led x y ∙ sym (ap (λ b. b || path_from (routed r) x y) no)
+          c.leads.ensures.value ∙ ap (λ z. path_from z x y) r.same_paths ∙ sym (ap (λ b. b || path_from (routed r) x y) no)
           ∙ path_leads (routed r) (well_formed-law r.graph.now) x y;
     }

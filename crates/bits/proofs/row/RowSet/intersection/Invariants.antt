@@ -1,6 +1,0 @@
-use Rattle.std.proofs.Common.{◌≡◌, ◌&&◌, length}
-use Rattle.bits.proofs.Member.{Joined}
-use Rattle.bits.proofs.row.RowSet.intersection.Given as goal
-
-abbrev pub invariant-loop-i : goal.invariant-loop-i
-invariant-loop-i g l = (length l.words ≡ g.row.W) × Joined (λ a b. a && b) l.self.words l.other.words l.words l.i

@@ -1,7 +1,0 @@
-use Rattle.std.proofs.Common.{arith}
-use Rattle.graph.proofs.Sound.{few_vertices}
-use Rattle.spans.proofs.Wide.{cell_zeros}
-use Rattle.changing.proofs.kept.ChangingGraph.of.Goals as goal
-
-pub lead-requires : goal.lead-requires
-lead-requires c = let few = few_vertices c.args.graph in record { graph_in_bounds = (omega arith, (omega arith, omega arith)); by_index = λ x y. cell_zeros 1024 4 x y }

@@ -1,0 +1,21 @@
+// Vertices that pass a test.
+ghost use Rattle.std.specs.Prelude.{ℕ, ◌<◌, T};
+ghost use Rattle.bits.specs.Sets.{holds};
+
+use bits::VertexSet;
+use model::Vertex;
+
+// Those of the first n vertices that pass.
+pub fn those<F: Fn(Vertex) -> bool>(n: u8, test: F) -> VertexSet
+    requires { F.IsAlwaysCallable test }
+    ensures below { (v : ℕ) → T (holds result v) → v < n }
+    ensures tested { (v : ℕ) → v < n → F.post test v (holds result v) }
+{
+    let mut found = VertexSet::empty();
+    for v in 0..n {
+        if test(v) {
+            found.insert(v);
+        }
+    }
+    found
+}

@@ -1,0 +1,12 @@
+use Rattle.std.proofs.lemmas.Result.{err_from_is_err_and}
+use Rattle.codec.specs.declared.kind.Kind.TheVariants.{Question}
+use Rattle.codec.proofs.KindNumbers.{no_kind, not_kind}
+use Rattle.codec.proofs.reader.Reader.question.Goals as goal
+
+pub returns-in_err-kind-clause-value : goal.returns-in_err-kind-clause-value
+returns-in_err-kind-clause-value c =
+    let p = err_from_is_err_and c.from_residual.result c.from_residual.ensures.1 in
+    rw (p.1, p.2) (
+      c.in_err-kind.ensures.input,
+      no_kind c.args.self.now.bytes.now c.args.self.now.at _ _ c.in_err-kind.ensures.value (λ n next none. not_kind Question n _ _ none),
+    )

@@ -1,0 +1,9 @@
+use Rattle.std.proofs.Common.{◌≡◌, ◌≤◌}
+use Rattle.history.specs.Left.{ahead, left}
+use Rattle.history.proofs.reading.Reading.next_question.Given as goal
+
+abbrev pub invariant-loop-self : goal.invariant-loop-self
+invariant-loop-self l = (left l.self ≡ left l.initial.self) × (ahead l.self ≤ ahead l.initial.self)
+
+abbrev pub decreases-loop-self : goal.decreases-loop-self
+decreases-loop-self l = ahead l.self

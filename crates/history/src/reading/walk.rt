@@ -1,0 +1,90 @@
+// The acts and questions of an input, read one after the other.
+ghost use Rattle.std.specs.Prelude.{◌≡◌, ◌≢◌, ◌<◌, ◌≤◌, [], length, IfOk, IfSome, Ok, Err, MatchOption, MatchResult, slice_index};
+ghost use Rattle.changing.specs.Of.{tracked};
+ghost use Rattle.codec.specs.Reads.{Reads};
+ghost use Rattle.history.specs.Left.{ahead, first, left, now};
+ghost use Rattle.history.specs.Posed.{posed, posed_question_at};
+
+use super::{ASKED, Reading};
+use changing::ChangingGraph;
+use codec::{Fault, Kind, Reader, apply_act, read_narrow_book};
+use model::Question;
+
+// The question that comes next, about a book of so many vertices.
+fn read_posed(input: &mut Reader, size: u8) -> Result<Question, Fault>
+    ensures value { Reads result input.old input.new (λ bs at. posed_question_at bs at size) }
+    ensures bound { IfOk result (λ _. (input.old.at < input.new.at) × (size ≤ 128)) }
+{
+    if size > ASKED {
+        return Err(Fault::OutOfRange { at: input.at() });
+    }
+    input.question(size)
+}
+
+impl Reading<'_> {
+    // At the first act or question.
+    pub fn of(bytes: &[u8]) -> Result<Reading<'_>, Fault>
+        ensures { MatchResult result (λ r. left r ≡ posed bytes.now) (λ f. posed bytes.now ≡ Err f) }
+    {
+        let (graph, input) = read_narrow_book(bytes)?;
+        Ok(Reading {
+            input,
+            book: ChangingGraph::of(graph),
+            acts: 0,
+        })
+    }
+
+    // The book as it is now.
+    pub fn book(&self) -> &ChangingGraph
+        ensures { tracked result.now ≡ now self.now }
+    {
+        &self.book
+    }
+
+    // Does the acts up to the next question, or up to the end of the input.
+    pub fn next_question(&mut self) -> Result<Option<Question>, Fault>
+        ensures value { MatchResult result
+            (λ o. MatchOption o (left self.old ≡ Ok []) (λ q. left self.old ≡ first (record { about = now self.new; question = q }) (left self.new)))
+            (λ f. left self.old ≡ Err f) }
+        ensures few { IfOk result (λ o. IfSome o (λ _. (now self.new).size ≤ 128)) }
+        ensures less { IfOk result (λ o. IfSome o (λ _. ahead self.new < ahead self.old)) }
+    {
+        while !self.input.is_done() {
+            if self.input.next_is(Kind::Question) {
+                return Ok(Some(self.question()?));
+            }
+            self.act()?;
+        }
+        Ok(None)
+    }
+
+    // The question that comes next.
+    fn question(&mut self) -> Result<Question, Fault>
+        requires there { self.old.input.at < length self.old.input.bytes.now }
+        requires asks { slice_index self.old.input.bytes.now self.old.input.at ≡ 6 }
+        ensures value { MatchResult result
+            (λ q. left self.old ≡ first (record { about = now self.new; question = q }) (left self.new))
+            (λ f. left self.old ≡ Err f) }
+        ensures few { IfOk result (λ _. (now self.new).size ≤ 128) }
+        ensures less { IfOk result (λ _. ahead self.new < ahead self.old) }
+    {
+        let mut input = self.input;
+        let question = read_posed(&mut input, self.book.graph().size())?;
+        self.input = input;
+        Ok(question)
+    }
+
+    // Does the act that comes next.
+    fn act(&mut self) -> Result<(), Fault>
+        requires there { self.old.input.at < length self.old.input.bytes.now }
+        requires acts { slice_index self.old.input.bytes.now self.old.input.at ≢ 6 }
+        ensures value { MatchResult result (λ _. left self.old ≡ left self.new) (λ f. left self.old ≡ Err f) }
+        ensures less { IfOk result (λ _. ahead self.new < ahead self.old) }
+    {
+        let mut input = self.input;
+        apply_act(&mut input, self.acts, &mut self.book)?;
+        self.input = input;
+        self.acts += 1;
+        Ok(())
+    }
+}

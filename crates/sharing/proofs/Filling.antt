@@ -1,0 +1,54 @@
+-- The table's rows become what they are to be, step by step.
+use Rattle.std.proofs.Common.{◌≡◌, ℕ, ◌+◌, ◌*◌, ◌/◌, ◌<◌, ◌≤◌, Bool, true, false, cond, ◌&&◌, ltb, length, refl, ap, ◌∙◌, inl, inr, arith}
+use Rattle.std.proofs.lemmas.Bool.{cases_lt, le-ltb}
+use Rattle.std.proofs.lemmas.Bool.Decides.{nat_tests}
+use Rattle.graph.specs.Graphs.{state}
+use Rattle.model.specs.State.{State}
+use Rattle.sharing.specs.Filling.{about, placed, Becomes}
+use Rattle.sharing.specs.declared.table.Table.{Table}
+use Rattle.sharing.proofs.Holding.{row_fits}
+
+module _ (w : ℕ) (a : Table w) where
+  -- The table is about the same state.
+  pub same_state : (b : Table w) → b.graph ≡ a.graph → about w b ≡ about w a
+  same_state b e = ap (λ g. state g.now) e
+
+  pub same_size : (b : Table w) → b.graph ≡ a.graph → (about w b).size ≡ (about w a).size
+  same_size b e = ap (λ g. (state g.now).size) e
+
+  module _ (b : Table w) (f : ℕ → ℕ → Bool) (t : Becomes w a b f) where
+    pub becomes_same : (h : ℕ → ℕ → Bool) → ((i x : ℕ) → f i x ≡ h i x) → Becomes w a b h
+    becomes_same h e = record { graph = t.graph; cells = λ i x. t.cells i x ∙ e i x }
+
+    pub becomes_then : (c : Table w) (g h : ℕ → ℕ → Bool) → Becomes w b c g → ((i x : ℕ) → g i x ≡ h i x) → Becomes w a c h
+    becomes_then c g h u e = record { graph = u.graph ∙ t.graph; cells = λ i x. u.cells i x ∙ e i x }
+
+-- Row 8 y + r of a right r to a vertex y that is there.
+pub row_there : (w : ℕ) (a b : Table w) (f : ℕ → ℕ → Bool) → Becomes w a b f → (y r : ℕ) → y < (about w a).size → r < 8 → (8 * y + r) * w + w ≤ length b.rows.now
+row_there w a b f t y r h l = row_fits (about w b).size w (length b.rows.now) y r b.fits (omega (arith, same_size w a b t.graph)) l
+
+-- The same cells by another name, where they count.
+pub placed_by : (s : State) (p h k was : ℕ → ℕ → Bool) (i x : ℕ) → (p i x ≡ true → i / 8 < s.size → h i x ≡ k i x) → placed s p h was i x ≡ placed s p k was i x
+placed_by s p h k was i x e =
+    elim (cases_lt (i / 8) s.size) [
+      | inl l ↦ by_test (p i x) (λ t. e t l)
+      | inr l ↦ let n = le-ltb (i / 8) s.size l in nothing (p i x) (ltb (i / 8) s.size) n
+    ]
+  where
+    by_test : (b : Bool) → (b ≡ true → h i x ≡ k i x) → cond (b && ltb (i / 8) s.size) (h i x) (was i x) ≡ cond (b && ltb (i / 8) s.size) (k i x) (was i x)
+    by_test true f = ap (λ v. cond (ltb (i / 8) s.size) v (was i x)) (f refl)
+    by_test false f = refl
+
+    nothing : (b n : Bool) → n ≡ false → cond (b && n) (h i x) (was i x) ≡ cond (b && n) (k i x) (was i x)
+    nothing b n e = grind (arith, nat_tests)
+
+module _ (s : State) (p q h was : ℕ → ℕ → Bool) (i x : ℕ) where
+  pub placed_same : p i x ≡ q i x → placed s p h was i x ≡ placed s q h was i x
+  placed_same e = ap (λ b. cond (b && ltb (i / 8) s.size) (h i x) (was i x)) e
+
+  -- Where neither has anything, it doesn't matter which is taken.
+  pub placed_nothing : h i x ≡ false → was i x ≡ false → placed s p h was i x ≡ placed s q h was i x
+  placed_nothing e f = law (p i x) (q i x) (ltb (i / 8) s.size) (h i x) (was i x) e f
+    where
+      law : (a b n h v : Bool) → h ≡ false → v ≡ false → cond (a && n) h v ≡ cond (b && n) h v
+      law a b n h v e f = grind (arith, nat_tests)

@@ -1,0 +1,24 @@
+use Rattle.std.proofs.Common.{◌≡◌, ℕ, ◌*◌, ◌/◌, ◌%◌, Bool, true, ◌&&◌, eqb, ltb, inl, inr, arith}
+use Rattle.std.proofs.lemmas.Bool.{cases_lt, lt-ltb}
+use Rattle.std.proofs.lemmas.Bool.Decides.{nat_tests}
+use Rattle.bits.proofs.Cell.{cell_past}
+use Rattle.sharing.specs.Filling.{about, cells}
+use Rattle.sharing.specs.Table.{has_row}
+use Rattle.sharing.proofs.Filling.{becomes_same, placed_same, placed_nothing}
+use Rattle.sharing.proofs.Holding.{past_holder}
+use Rattle.sharing.proofs.table.Table.turn_right.Goals as goal
+
+and_true : (a b : Bool) → b ≡ true → (a && b) ≡ a
+and_true a b e = grind (arith, nat_tests)
+
+pub returns : goal.returns
+returns g c =
+    let t = c.args.self.now in
+    let s = about g.row.W t in
+    let p : ℕ → ℕ → Bool = λ i x. eqb (i % 8) c.args.r && ltb (x / 64) c.loop-g.g in
+    let q : ℕ → ℕ → Bool = λ i x. eqb (i % 8) c.args.r in
+    becomes_same g.row.W t c.loop-g.self _ c.loop-g.invariant _ (λ i x.
+    elim (cases_lt x (64 * g.row.W)) [
+      | inl l ↦ placed_same s p q (has_row s) (cells g.row.W t) i x (and_true _ _ (lt-ltb (x / 64) c.loop-g.g (omega arith)))
+      | inr l ↦ placed_nothing s p q (has_row s) (cells g.row.W t) i x (past_holder t.graph.now i x (omega (arith, t.wide))) (cell_past t.rows.now g.row.W i x l)
+    ])
