@@ -16,10 +16,6 @@ use Rattle.answers.specs.Asked.{asked, book_alone, questions_at}
 abbrev pub behind : List Question → Result (List Question) Fault → Result (List Question) Fault
 behind qs r = onward r λ more. Ok (qs ++ more)
 
-pub behind_none : (r : Result (List Question) Fault) → behind [] r ≡ r
-behind_none (Ok more) = refl
-behind_none (Err f) = refl
-
 module _ (bs : List ℕ) (size at : ℕ) (qs : List Question) (i : ℕ) {R : Result (List Question) Fault} (inv : behind qs (questions_at (length bs - i) bs size at) ≡ R) where
   pub questions_done : length bs ≤ at → Ok qs ≡ R
   unfolding questions_at

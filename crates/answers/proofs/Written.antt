@@ -32,12 +32,6 @@ unfolding table_of
 table_more s y = ap (table_of s) (add-one y)
 
 -- One piece more behind what was written.
-pub extended :
-    {E : Type 0} (r : Result (Unit {0}) E) (before mid after x y : List ℕ) → after ≡ cond (is_ok r) (mid ++ x) mid → mid ≡ before ++ y →
-    Appended r before after (y ++ x)
-extended (Ok _) before mid after x y e g = e ∙ ap (λ t. t ++ x) g ∙ append_assoc before y x
-extended (Err _) before mid after x y e g = tt
-
 pub extended_once :
     {E : Type 0} (r : Result (Unit {0}) E) (before after x y : List ℕ) → after ≡ cond (is_ok r) (before ++ x) before → x ≡ y → Appended r before after y
 extended_once (Ok _) before after x y e g = e ∙ ap (λ t. before ++ t) g

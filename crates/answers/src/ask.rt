@@ -9,6 +9,7 @@ ghost use Rattle.graph.specs.Graphs.{state};
 ghost use Rattle.sharing.specs.Of.{answered};
 
 use crate::read::Asked;
+use crate::shared::with_sharing;
 use codec::InputError;
 use graph::Graph;
 use model::Question;
@@ -27,11 +28,7 @@ pub fn answer_lines(heap: Global, bytes: &[u8]) -> Result<Vec<u8>, InputError>
 fn write_lines(heap: Global, graph: &Graph, questions: &[Question]) -> Result<Vec<u8>, AllocError>
     ensures { IfOk result (λ v. v.items ≡ lines_of (state graph.now) questions.now) }
 {
-    let mut rows = vec![in heap; 0; Sharing::words(graph.size())]?;
-    let Some(sharing) = Sharing::of(graph, &mut rows) else {
-        unreachable();
-    };
-    lines(heap, &sharing, questions)
+    with_sharing(heap, graph, |sharing| lines(heap, sharing, questions))
 }
 
 fn lines(heap: Global, sharing: &Sharing, questions: &[Question]) -> Result<Vec<u8>, AllocError>

@@ -4,6 +4,7 @@
 mod ask;
 mod read;
 mod record;
+mod shared;
 mod table;
 
 pub use ask::{answer_lines, line};

@@ -1,5 +1,5 @@
 // The answers as bytes: for each yes a plan, for each no a sheet.
-ghost use Rattle.std.specs.Prelude.{◌≡◌, ℕ, ◌≤◌, ◌++◌, length, IfOk, MatchResult};
+ghost use Rattle.std.specs.Prelude.{◌≡◌, ℕ, ◌≤◌, [], ◌++◌, length, IfOk, MatchResult};
 ghost use Rattle.answers.specs.AskErrors.{IsRefusedSo};
 ghost use Rattle.answers.specs.Asked.{asked};
 ghost use Rattle.answers.specs.Lines.{answer_to, line_of, lines_of};
@@ -37,6 +37,7 @@ pub fn answer_records(heap: Global, bytes: &[u8]) -> Result<Answers, InputError>
 }
 
 // One room serves all plans: the longest that there may be.
+// Clauses say `size ≤ 128` since the type of graphs has room for 255 vertices, and only questions ask for fewer.
 fn write_answers(heap: Global, graph: &Graph, questions: &[Question]) -> Result<Answers, AllocError>
     requires { (state graph.now).size ≤ 128 }
     ensures { IfOk result (λ a. (a.lines.items ≡ lines_of (state graph.now) questions.now) × (a.records.items ≡ records_of (state graph.now) questions.now)) }
@@ -55,10 +56,7 @@ fn answer_all(
     requires room { longest_answer_len (routed routes.now).size ≤ length room.old }
     ensures { IfOk result (λ a. (a.lines.items ≡ lines_of (routed routes.now) questions.now) × (a.records.items ≡ records_of (routed routes.now) questions.now)) }
 {
-    let mut answers = Answers {
-        lines: Vec::new(heap),
-        records: Vec::new(heap),
-    };
+    let mut answers = Answers::new(heap);
     for question in questions {
         answers.add(routes, *question, room)?;
     }
@@ -66,6 +64,17 @@ fn answer_all(
 }
 
 impl Answers {
+    // To no question yet.
+    pub fn new(heap: Global) -> Answers
+        ensures lines { result.lines.items ≡ [] }
+        ensures records { result.records.items ≡ [] }
+    {
+        Answers {
+            lines: Vec::new(heap),
+            records: Vec::new(heap),
+        }
+    }
+
     // One question more. `room` is where its plan is written first.
     pub fn add(
         &mut self,

@@ -8,6 +8,7 @@ ghost use Rattle.graph.specs.Graphs.{state};
 ghost use Rattle.model.specs.State.{State};
 ghost use Rattle.sharing.specs.Of.{answered};
 
+use crate::shared::with_sharing;
 use codec::{Fault, InputError, read_narrow_book};
 use graph::Graph;
 use model::{RIGHTS, Vertex};
@@ -28,11 +29,7 @@ pub fn sharing_table(heap: Global, bytes: &[u8]) -> Result<String, InputError>
 fn write_table(heap: Global, graph: &Graph) -> Result<String, AllocError>
     ensures { IfOk result (λ t. string_bytes t ≡ table_of (state graph.now) (state graph.now).size) }
 {
-    let mut rows = vec![in heap; 0; Sharing::words(graph.size())]?;
-    let Some(sharing) = Sharing::of(graph, &mut rows) else {
-        unreachable();
-    };
-    table(heap, &sharing, graph.size())
+    with_sharing(heap, graph, |sharing| table(heap, sharing, graph.size()))
 }
 
 // The lines of so many vertices.

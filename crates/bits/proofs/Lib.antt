@@ -7,7 +7,6 @@ pub mod ByWord
 pub mod Holds
 pub mod Bytes
 pub mod FromFn
-pub mod Fitted
 pub mod Walk
 pub mod Chain
 mod Turn

@@ -1,10 +1,11 @@
 // Sets of numbers as bytes, the highest first: number k is bit k % 8 of the byte that k / 8 bytes follow.
+// Byte by byte, since there may be any number of them up to 32, and no whole words.
 
 ghost use Rattle.std.specs.Prelude.{◌≡◌, ℕ, ◌*◌, ◌/◌, ◌%◌, ◌<◌, ◌≤◌, Bool, ◌&&◌, ◌||◌, length, ◌==◌};
 ghost use Rattle.bits.specs.Sets.{Same, byte_of, in_bytes, member, set_bytes};
 ghost use Rattle.model.specs.Bit.{bit};
 
-// Adds the numbers that `byte` names where j bytes follow it.
+// Adds the numbers that a byte names: it is the one that j bytes follow.
 fn add_byte(words: &mut [u64], j: usize, byte: u8)
     requires { j < 8 * length words.old }
     ensures { (k : ℕ) → member words.new k ≡ ((k / 8 == j && bit byte (k % 8)) || member words.old k) }
@@ -18,6 +19,7 @@ pub fn read(bytes: &[u8]) -> [u64; 4]
     ensures { (k : ℕ) → member result k ≡ in_bytes bytes.now k }
 {
     let mut words = [0; 4];
+    // Counted from the front: a walk from the back, which counts what follows, was tried, and its proof didn't close.
     for (i, byte) in bytes.iter().enumerate() {
         add_byte(&mut words, bytes.len() - 1 - i, *byte);
     }

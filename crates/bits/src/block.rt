@@ -1,4 +1,6 @@
 // Blocks of 64 rows of W words: each 64 columns turned round, so that rows become columns.
+// Rows are taken by their index, since the two that exchange lie J apart in one lent slice. How many strips there are and the mask follow from J,
+// but a constant can't be worked out from another in this language, so that they are handed on.
 
 ghost use Rattle.std.specs.Prelude.{◌≡◌, ℕ, ◌+◌, ◌*◌, ◌/◌, ◌%◌, ◌<◌, ◌≤◌, ◌&&◌, ◌||◌, length, if◌then◌else◌, nat_eq, nat_le, nat_lt};
 ghost use Rattle.bits.specs.Blocks.{Mask, exchanged, swapped};
@@ -18,7 +20,7 @@ fn exchange<const W: usize, const J: usize>(block: &mut [u64], x: usize, i: usiz
     row_put(block, W, x + J, i, high ^ differ);
 }
 
-// They do so in each word.
+// Rows x and x + J exchange in each word.
 fn exchange_rows<const W: usize, const J: usize>(block: &mut [u64], x: usize, mask: u64)
     requires { ((x + J) * W + W ≤ length block.old) × (Mask J mask) }
     ensures { (r k : ℕ) → k < 64 * W → cell block.new W r k ≡ exchanged J x (cell block.old W) r k }
@@ -28,7 +30,7 @@ fn exchange_rows<const W: usize, const J: usize>(block: &mut [u64], x: usize, ma
     }
 }
 
-// So do the J rows from 2 * J * b on, each with the row J after it.
+// Each of the J rows from 2 * J * b on exchanges with the row J after it.
 fn swap_strips<const W: usize, const J: usize>(block: &mut [u64], b: usize, mask: u64)
     requires { ((2 * J * b + 2 * J) * W ≤ length block.old) × ((2 * J * b + 2 * J ≤ 64) × (Mask J mask)) }
     ensures { (r k : ℕ) → k < 64 * W → cell block.new W r k ≡ (if nat_le (2 * J * b) r && nat_lt r (2 * J * b + 2 * J) then swapped J (cell block.old W) r k else cell block.old W r k) }
@@ -39,7 +41,7 @@ fn swap_strips<const W: usize, const J: usize>(block: &mut [u64], b: usize, mask
     }
 }
 
-// So do all 64 rows.
+// Each of the 64 rows exchanges with the one J after or before it.
 fn swap<const W: usize, const J: usize>(block: &mut [u64], n: usize, mask: u64)
     requires { (64 * W ≤ length block.old) × ((2 * J * n ≡ 64) × (Mask J mask)) }
     ensures { (r k : ℕ) → r < 64 → k < 64 * W → cell block.new W r k ≡ swapped J (cell block.old W) r k }

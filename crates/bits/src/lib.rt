@@ -5,6 +5,7 @@ mod big_endian;
 mod block;
 mod members;
 mod rows;
+mod select;
 mod set;
 mod words;
 
@@ -14,6 +15,7 @@ pub use rows::{
     row_add, row_clear, row_contains, row_count, row_insert, row_is_subset, row_put, row_set,
     row_union, row_word,
 };
+pub use select::those;
 pub use set::{BitSet, VertexSet};
 pub use words::pop_bit;
 

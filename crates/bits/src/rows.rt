@@ -1,4 +1,5 @@
 // Tables of bits in a lent slice: row x is the w words from x * w on, and writes a set of numbers below 64 * w.
+// That they are plain slices with the width beside them, and no struct, is a rule of the project: who asks for a table lends the memory for it.
 
 ghost use Rattle.std.specs.Prelude.{◌≡◌, ℕ, ◌+◌, ◌*◌, ◌/◌, ◌%◌, ◌^◌, ◌<◌, ◌≤◌, not, ◌&&◌, ◌||◌, length, if◌then◌else◌, ◌==◌, nat_eq, nat_lt};
 ghost use Rattle.bits.specs.Rows.{cell};
@@ -51,6 +52,7 @@ pub fn row_union(rows: &mut [u64], w: usize, into: usize, from: usize)
     requires { (into * w + w ≤ length rows.old) × (from * w + w ≤ length rows.old) }
     ensures { (x k : ℕ) → cell rows.new w x k ≡ (cell rows.old w x k || (x == into && cell rows.old w from k)) }
 {
+    // By index, since both rows are in one slice.
     for i in 0..w {
         rows[into * w + i] |= rows[from * w + i];
     }
@@ -86,12 +88,13 @@ fn add_words(rows: &mut [u64], w: usize, x: usize, words: &[u64])
     requires { (x * w + w ≤ length rows.old) × (w ≤ length words.now) }
     ensures { (y k : ℕ) → cell rows.new w y k ≡ (cell rows.old w y k || (y == x && (nat_lt k (64 * w) && member words.now k))) }
 {
+    // By index: a walk over both slices side by side was tried, and its proof didn't close.
     for i in 0..w {
         rows[x * w + i] |= words[i];
     }
 }
 
-// What row x has, as a set.
+// What row x has, as a set: `BitSet::at` where the width is known only when the program runs.
 pub fn row_set(rows: &[u64], w: usize, x: usize) -> VertexSet
     requires { (x * w + w ≤ length rows.now) × (w ≤ 4) }
     ensures { (k : ℕ) → holds result k ≡ cell rows.now w x k }
@@ -99,7 +102,7 @@ pub fn row_set(rows: &[u64], w: usize, x: usize) -> VertexSet
     BitSet::of(words::resized(row(rows, w, x)))
 }
 
-// Adds to row x what the set has; what is past the end of a row is left out.
+// Adds to row x what the set has, of whatever width the row is; what is past its end is left out.
 pub fn row_add(rows: &mut [u64], w: usize, x: usize, set: &VertexSet)
     requires { (x * w + w ≤ length rows.old) × (w ≤ 4) }
     ensures { (y k : ℕ) → cell rows.new w y k ≡ (cell rows.old w y k || (y == x && (nat_lt k (64 * w) && holds set.now k))) }

@@ -43,7 +43,7 @@ impl<const W: usize> BitSet<W> {
     }
 
     // v alone, as far as there is room.
-    fn only(v: usize) -> BitSet<W>
+    pub fn only(v: usize) -> BitSet<W>
         ensures { (k : ℕ) → among W result k ≡ (nat_lt k (64 * W) && k == v) }
     {
         BitSet::of(std::array::from_fn(|i| words::only_word(v, i)))
@@ -109,7 +109,7 @@ impl<const W: usize> BitSet<W> {
         words::lowest(&self.words()).map(|v| v as u8)
     }
 
-    // Takes the lowest number out.
+    // Takes the lowest number out: by whole sets, which stay in registers where a word that is written by its index would not.
     pub fn pop(&mut self) -> Option<u8>
         requires { W ≤ 4 }
         ensures { TakesLowest (among W self.old) result (among W self.new) }

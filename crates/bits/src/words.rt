@@ -1,6 +1,8 @@
 // Sets of numbers as slices of 64-bit words: number k is bit k % 64 of word k / 64.
+// `has`, `put` and `cut` take word and bit apart: a row of a table begins at a word, so that of one number both would have to be divided out again.
 
-ghost use Rattle.std.specs.Prelude.{◌≡◌, ℕ, ◌+◌, ◌*◌, ◌^◌, ◌<◌, ◌≤◌, Bool, true, false, not, ◌&&◌, ◌||◌, length, MatchOption, ◌==◌, nat_lt, slice_index};
+ghost use Rattle.std.specs.Prelude.{◌≡◌, ℕ, ◌+◌, ◌*◌, ◌^◌, ◌<◌, ◌≤◌, Bool, true, false, not, ◌&&◌, ◌||◌, length, IfSome, MatchOption, ◌==◌, nat_lt, slice_index};
+ghost use Rattle.bits.specs.Members.{TakesLowest};
 ghost use Rattle.bits.specs.Sets.{Same, member};
 ghost use Rattle.model.specs.Bit.{bit};
 ghost use Rattle.model.specs.Bounded.{all_below, count_below, implies};
@@ -23,9 +25,8 @@ pub fn put(words: &mut [u64], at: usize, i: usize)
 
 // Takes the lowest bit out of a word.
 pub fn pop_bit(word: &mut u64) -> Option<u32>
-    ensures { MatchOption result
-        ((k : ℕ) → bit word.old k ≡ false)
-        (λ i. (i < 64) × (bit word.old i ≡ true) × ((k : ℕ) → bit word.new k ≡ (not (k == i) && bit word.old k))) }
+    ensures lowest { TakesLowest (bit word.old) result (bit word.new) }
+    ensures bound { IfSome result (λ i. i < 64) }
 {
     if *word == 0 {
         return None;
@@ -117,12 +118,16 @@ pub fn lowest(words: &[u64]) -> Option<usize>
     None
 }
 
+// Word i of a set: 0 past the last.
+fn word(words: &[u64], i: usize) -> u64
+    ensures { result ≡ slice_index words.now i }
+{
+    if i < words.len() { words[i] } else { 0 }
+}
+
 // The same set in W words, as far as there is room.
 pub fn resized<const W: usize>(words: &[u64]) -> [u64; W]
     ensures { (k : ℕ) → member result k ≡ (nat_lt k (64 * W) && member words.now k) }
 {
-    let mut all = [0; W];
-    let n = W.min(words.len());
-    all[..n].copy_from_slice(&words[..n]);
-    all
+    std::array::from_fn(|i| word(words, i))
 }

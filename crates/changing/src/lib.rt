@@ -3,6 +3,5 @@
 
 mod kept;
 mod rows;
-mod select;
 
 pub use kept::ChangingGraph;

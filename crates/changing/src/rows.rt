@@ -9,14 +9,15 @@ ghost use Rattle.spans.specs.Paths.{path_from};
 
 use bits::{VertexSet, row_contains, row_insert, row_union};
 use graph::Graph;
-use model::Vertex;
+use model::{NUMBERS, Vertex};
 use spans::lead;
 
 // The words of a row, and those of all rows.
 const ROW: usize = 4;
 
-const WORDS: usize = 1024;
+const WORDS: usize = ROW * NUMBERS;
 
+// Flat words, since `spans::lead` and the rows of `bits` work in lent slices of words, by a rule of the project.
 #[derive(Drop)]
 pub struct Rows {
     words: [u64; WORDS],

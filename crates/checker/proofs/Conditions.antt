@@ -1,7 +1,7 @@
 -- The conditions of a right certificate, as the code looks at them.
-use Rattle.std.proofs.Common.{◌≡◌, ℕ, ◌<◌, Bool, true, false, not, ◌&&◌, ◌||◌, T, sym, refl, ap, ◌∙◌, subst, inl, inr, arith, T_not}
+use Rattle.std.proofs.Common.{◌≡◌, ℕ, Bool, not, ◌&&◌, ◌||◌, T, sym, subst, inl, inr, arith, T_not}
 use lib.Dec.{not_T}
-use Rattle.std.proofs.lemmas.Bool.{lt-ltb}
+use Rattle.std.proofs.lemmas.Bool.Decides.{nat_tests}
 use Rattle.bits.specs.Sets.{Same}
 use Rattle.model.specs.State.{State, is_subject, take_right, grant_right}
 use Rattle.model.specs.Bounded.{some_below, all_below}
@@ -33,11 +33,9 @@ one_held g p r Y row e = same _ _ found there
         not_T _ λ a. T_not (row s.at) (all_at 256 _ a s.at (omega arith)) (subst T (sym (e s.at)) s.passes)
 
 -- A vertex alone.
-pub standing_fits-law : (s : State) (X : ℕ → Bool) (c : Certificate) (p : ℕ) (subject holder inner out into : Bool) → p < s.size → subject ≡ s.subject p → holder ≡ X p → inner ≡ c.inner p → out ≡ c.out p → into ≡ c.into p → standing_fits (record { subject = subject; holder = holder; inner = inner; out = out; into = into }) ≡ vertex_fits s X c p
+pub standing_fits-law : (s : State) (X : ℕ → Bool) (c : Certificate) (p : ℕ) (subject holder inner out into : Bool) → subject ≡ is_subject s p → holder ≡ X p → inner ≡ c.inner p → out ≡ c.out p → into ≡ c.into p → standing_fits (record { subject = subject; holder = holder; inner = inner; out = out; into = into }) ≡ vertex_fits s X c p
 unfolding vertex_fits
-standing_fits-law s X c p subject holder inner out into l a h j o i =
-    let b : subject ≡ is_subject s p = a ∙ ap (λ t. t && s.subject p) (sym (lt-ltb p s.size l)) in
-    rw (b, h, j, o, i)
+standing_fits-law s X c p subject holder inner out into a h j o i = rw (a, h, j, o, i)
 
 -- Takes and grants.
 pub take_broken-law : (s : State) (c : Certificate) (p q : ℕ) → (s.has p take_right q && not (take_fits c p q)) ≡ take_broken s c p q
@@ -45,41 +43,11 @@ unfolding take_fits
 take_broken-law s c p q = law (s.has p take_right q) (c.out p) (c.out q) (c.into p) (c.into q)
   where
     law : (h o o' i i' : Bool) → (h && not ((not o || o') && (not i' || i))) ≡ ((o && (h && not o')) || (not i && (h && i')))
-    law false true o' true i' = refl
-    law false true o' false i' = refl
-    law false false o' true i' = refl
-    law false false o' false i' = refl
-    law true true true true true = refl
-    law true true true true false = refl
-    law true true true false true = refl
-    law true true true false false = refl
-    law true true false i i' = refl
-    law true false o' true true = refl
-    law true false o' true false = refl
-    law true false o' false true = refl
-    law true false o' false false = refl
+    law h o o' i i' = grind (arith, nat_tests)
 
 pub grant_broken-law : (s : State) (X : ℕ → Bool) (c : Certificate) (p q : ℕ) → (s.has p grant_right q && not (grant_fits X c p q)) ≡ grant_broken s X c p q
 unfolding grant_fits
 grant_broken-law s X c p q = law (s.has p grant_right q) (c.out p) (c.into q) (c.into p) (c.out q) (X q)
   where
     law : (h o i' i o' x : Bool) → (h && not ((not o || i') && ((not o' || i) && (not x || i)))) ≡ ((o && (h && not i')) || (not i && (h && (o' || x))))
-    law false true i' true o' x = refl
-    law false true i' false o' x = refl
-    law false false i' true o' x = refl
-    law false false i' false o' x = refl
-    law true true false i o' x = refl
-    law true true true true true true = refl
-    law true true true true true false = refl
-    law true true true true false true = refl
-    law true true true true false false = refl
-    law true true true false true x = refl
-    law true true true false false true = refl
-    law true true true false false false = refl
-    law true false i' true true true = refl
-    law true false i' true true false = refl
-    law true false i' true false true = refl
-    law true false i' true false false = refl
-    law true false i' false true x = refl
-    law true false i' false false true = refl
-    law true false i' false false false = refl
+    law h o i' i o' x = grind (arith, nat_tests)

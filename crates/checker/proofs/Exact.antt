@@ -1,5 +1,6 @@
 -- No fault is found exactly where the certificate is right.
-use Rattle.std.proofs.Common.{◌≡◌, ℕ, ◌<◌, Bool, true, false, not, ◌&&◌, ◌||◌, T, is_some, Some, None, Option, refl, inl, inr, arith, T_not}
+use Rattle.std.proofs.Common.{◌≡◌, ℕ, ◌<◌, Bool, not, ◌&&◌, ◌||◌, T, is_some, Some, None, Option, refl, inl, inr, arith, T_not}
+use Rattle.std.proofs.lemmas.Bool.Decides.{nat_tests}
 use lib.Dec.{not_T}
 use Rattle.model.specs.State.{State, take_right, grant_right}
 use Rattle.model.specs.Bounded.{all_below, implies}
@@ -10,8 +11,7 @@ use Rattle.checker.specs.FirstFault.{has_some, held_at, out_holds_at, vertex_at,
 use Rattle.checker.proofs.First.{or_none, none_or, when_none, none_when, first_none, none_first}
 
 twice_not : (b : Bool) → (T (not b) → ⊥) → T b
-twice_not true h = tt
-twice_not false h = h tt
+twice_not b h = grind (arith, nat_tests)
 
 is_none : {A : Type 0} (o : Option A) → T (not (is_some o)) → o ≡ None
 is_none None t = refl
@@ -19,7 +19,7 @@ is_none (Some x) t = absurd t
 
 from_none : {A : Type 0} (o : Option A) → o ≡ None → T (not (is_some o))
 from_none None e = tt
-from_none (Some x) e = absurd (let z : ◌≡◌ {A = ℕ} 0 1 = cc in omega arith)
+from_none (Some x) e = cc
 
 module _ (s : State) (X : ℕ → Bool) (r : ℕ) (Y : ℕ → Bool) (c : Certificate) where
   -- None of those who pass the test has the right to one of Y.

@@ -1,5 +1,6 @@
 -- The laws of the first below a bound.
-use Rattle.std.proofs.Common.{◌≡◌, ℕ, zero, suc, ◌+◌, ◌<◌, Bool, true, false, T, Some, None, Option, MatchOption, sym, refl, ap, ◌∙◌, subst, inl, inr, add-one, arith}
+use Rattle.std.proofs.Common.{◌≡◌, ℕ, zero, suc, ◌<◌, Bool, true, false, T, Some, None, Option, MatchOption, sym, refl, ap, ◌∙◌, subst, inl, inr, arith}
+use Rattle.std.proofs.lemmas.Bool.Decides.{nat_tests}
 use Rattle.std.proofs.lemmas.Bool.{cases_eq}
 use Rattle.std.specs.Option.{option_map, option_or}
 use Rattle.std.specs.Bool.{then_some}
@@ -8,22 +9,16 @@ use Rattle.checker.specs.First.{first_below}
 
 pub or_none : {A : Type 0} (a b : Option A) → option_or a b ≡ None → (a ≡ None) × (b ≡ None)
 or_none None b e = (refl, e)
-or_none (Some x) b e = absurd (let z : ◌≡◌ {A = ℕ} 0 1 = cc in omega arith)
+or_none (Some x) b e = cc
 
 pub none_or : {A : Type 0} (a b : Option A) → a ≡ None → b ≡ None → option_or a b ≡ None
 none_or a b e h = ap (λ x. option_or x b) e ∙ h
 
 pub when_none : {A : Type 0} (t : Bool) (a : A) → then_some t a ≡ None → T t → ⊥
-when_none true a e s = let z : ◌≡◌ {A = ℕ} 0 1 = cc in omega arith
-when_none false a e s = s
+when_none t a e s = grind (arith, nat_tests)
 
 pub none_when : {A : Type 0} (t : Bool) (a : A) → (T t → ⊥) → then_some t a ≡ None
-none_when true a h = absurd (h tt)
-none_when false a h = refl
-
-pub first_more : {A : Type 0} (n : ℕ) (f : ℕ → Option A) → option_or (first_below n f) (f n) ≡ first_below (n + 1) f
-unfolding first_below
-first_more n f = ap (λ m. first_below m f) (sym (add-one n))
+none_when t a h = grind (arith, nat_tests)
 
 pub none_first : {A : Type 0} (n : ℕ) (f : ℕ → Option A) → ((k : ℕ) → k < n → f k ≡ None) → first_below n f ≡ None
 unfolding first_below
@@ -35,10 +30,8 @@ unfolding first_below
 first_none zero f e k l = absurd (omega arith)
 first_none (suc n) f e k l =
     let p = or_none (first_below n f) (f n) e in
-    elim (cases_eq k n) [
-      | inl q ↦ subst (λ m. f m ≡ None) (sym q) p.1
-      | inr d ↦ first_none n f p.0 k (omega arith)
-    ]
+    let later = first_none n f p.0 k in
+    grind arith
 
 pub first_at : {A : Type 0} (n : ℕ) (f : ℕ → Option A) (v : ℕ) (a : A) → v < n → ((k : ℕ) → k < v → f k ≡ None) → f v ≡ Some a → first_below n f ≡ Some a
 unfolding first_below

@@ -1,42 +1,18 @@
 -- Rules that were read and applied in turn: which they are, and that each was applicable and there was room.
-use Rattle.std.proofs.Common.{◌≡◌, ℕ, zero, suc, ◌+◌, ◌≤◌, Bool, true, false, cond, ◌&&◌, T, eqb, List, [], ◌∷◌, length, Ok, Err, sym, refl, ap, ◌∙◌, subst, arith}
-use Rattle.std.proofs.lemmas.Bool.{eqb-false, ne_eqb}
+use Rattle.std.proofs.Common.{◌≡◌, ℕ, zero, suc, ◌+◌, ◌≤◌, T, List, [], ◌∷◌, length, Ok, sym, refl, ap, ◌∙◌, subst, arith}
 use Rattle.model.specs.State.{State}
 use Rattle.model.specs.Rules.{applicable, applied, after, all_applicable}
 use Rattle.model.specs.Plans.{creation, creations}
 use Rattle.model.specs.declared.Rule.{Rule}
 use Rattle.model.specs.declared.Rule.TheVariants.{Take, Grant, Create, Remove}
-use Rattle.model.proofs.Tests.{both, parts, is_true, from_true}
-use Rattle.graph.specs.Graphs.{creates}
-use Rattle.graph.specs.declared.refusal.Refusal.TheVariants.{NotApplicable, Full}
+use Rattle.model.proofs.Tests.{both, parts}
 use Rattle.codec.specs.Reading.{Read, onward}
 use Rattle.codec.specs.Acts.{act_at}
-use Rattle.codec.specs.Replay.{told, performed, performed_at}
-use Rattle.codec.proofs.Inverted.{onward_ok}
+use Rattle.codec.specs.Replay.{performed, performed_at}
+use Rattle.codec.proofs.Inverted.{onward_ok, ok_same}
+use Rattle.codec.proofs.Performed.{after_on, performed_done, performed_ok}
 use Rattle.checker.specs.Reading.{rules_at}
 use Rattle.checker.specs.Right.{Listed}
-use Rattle.checker.proofs.Ways.{ok_same}
-
--- A graph does what is applicable and has room, and nothing else.
-told_ok : (may full : Bool) (i : ℕ) (s t : State) → told (cond may (cond full (Err Full) (Ok tt)) (Err NotApplicable)) i s ≡ Ok t → (may ≡ true) × (full ≡ false) × (s ≡ t)
-told_ok true true i s t e = absurd (let z : ◌≡◌ {A = ℕ} 0 1 = cc in omega arith)
-told_ok true false i s t e = (refl, refl, cc)
-told_ok false full i s t e = absurd (let z : ◌≡◌ {A = ℕ} 0 1 = cc in omega arith)
-
--- Room for what a rule creates.
-room_from : (a : Rule) (n : ℕ) → n ≤ 255 → (creates a && eqb n 255) ≡ false → n + creation a ≤ 255
-unfolding creation
-room_from (Take t) n h e = omega arith
-room_from (Grant g) n h e = omega arith
-room_from (Create c) n h e = let d = eqb-false n 255 e in omega arith
-room_from (Remove d) n h e = omega arith
-
-room_to : (a : Rule) (n : ℕ) → n + creation a ≤ 255 → (creates a && eqb n 255) ≡ false
-unfolding creation
-room_to (Take t) n h = refl
-room_to (Grant g) n h = refl
-room_to (Create c) n h = ne_eqb n 255 (λ e. omega arith)
-room_to (Remove d) n h = refl
 
 applied_size : (s : State) (a : Rule) → (applied s a).size ≡ s.size + creation a
 unfolding creation
@@ -44,10 +20,6 @@ applied_size s (Take t) = omega arith
 applied_size s (Grant g) = omega arith
 applied_size s (Create c) = omega arith
 applied_size s (Remove d) = omega arith
-
-after_applied : (s : State) (a : Rule) (more : List Rule) → T (applicable s a) → after s (a ∷ more) ≡ after (applied s a) more
-unfolding after
-after_applied s a more t = ap (λ b. after (cond b (applied s a) s) more) (is_true _ t)
 
 pub record Performed (bs : List ℕ) (s : State) (at count : ℕ) (t : State) (end : ℕ) : Type 0 where
   pub rules : List Rule
@@ -72,18 +44,18 @@ performed_more bs s at count t end a next e h p =
       listed = (next, (e, p.listed));
       applicable = both (applicable s a) _ h p.applicable;
       room = let z = applied_size s a in let m = p.room in omega arith;
-      is = after_applied s a p.rules h ∙ p.is;
+      is = after_on s a p.rules h ∙ p.is;
     }
 
 -- One act that was performed, and those behind it.
 performed_one : (bs : List ℕ) (s : State) (at i count : ℕ) (t : State) (end : ℕ) → s.size ≤ 255 → ((next : ℕ) (v : State) → v.size ≤ 255 → rules_at count bs next (i + 1) v ≡ Ok (t, end) → Performed bs v next count t end) → (a : Rule) (next : ℕ) → act_at bs s.size at ≡ Ok (a, next) → (u : State × ℕ) → onward (performed s a i) (λ v. Ok (v, next)) ≡ Ok u → rules_at count bs u.1 (i + 1) u.0 ≡ Ok (t, end) → Performed bs s at (suc count) t end
 performed_one bs s at i count t end few more a next read u did rest =
     let d = onward_ok (performed s a i) _ u did in
-    let r = told_ok (applicable s a) (creates a && eqb s.size 255) i (applied s a) d.0 d.1 in
-    let made : ◌≡◌ {A = State × ℕ} (applied s a, next) u = ap (λ v. (v, next)) r.2 ∙ ok_same (d.0, next) u d.2 in
-    performed_more bs s at count t end a next read (from_true _ r.0)
-    (more next (applied s a) (let z = applied_size s a in let m = room_from a s.size few r.1 in omega arith)
-    (subst (λ (v : State × ℕ). rules_at count bs v.1 (i + 1) v.0 ≡ Ok (t, end)) (sym made) rest))
+    let r = performed_ok s a i d.0 d.1 in
+    let room = r.room (omega arith) in
+    let made : ◌≡◌ {A = State × ℕ} (applied s a, next) u = ap (λ v. (v, next)) (sym r.result) ∙ ok_same (d.0, next) u d.2 in
+    performed_more bs s at count t end a next read r.may
+    (more next (applied s a) (omega arith) (subst (λ (v : State × ℕ). rules_at count bs v.1 (i + 1) v.0 ≡ Ok (t, end)) (sym made) rest))
 
 pub rules_performed : (count : ℕ) (bs : List ℕ) (at i : ℕ) (s t : State) (end : ℕ) → s.size ≤ 255 → rules_at count bs at i s ≡ Ok (t, end) → Performed bs s at count t end
 unfolding rules_at
@@ -100,13 +72,8 @@ performed_rules (a ∷ more) bs at i s end l h m =
     let b = parts (applicable s a) _ h in
     let z = applied_size s a in
     ap rest (ap (λ x. onward {A = Rule × ℕ} {B = State × ℕ} x λ r. onward (performed s r.0 i) λ t. Ok (t, r.1)) l.1.0) ∙
-    ap rest (ap (λ x. onward {A = State} {B = State × ℕ} x λ t. Ok (t, l.0)) (done b.0)) ∙
-    performed_rules more bs l.0 (i + 1) (applied s a) end l.1.1 b.1 (omega arith) ∙ ap (λ t. Ok (t, end)) (sym (after_applied s a more b.0))
+    ap rest (ap (λ x. onward {A = State} {B = State × ℕ} x λ t. Ok (t, l.0)) (performed_done s a i b.0 (omega arith))) ∙
+    performed_rules more bs l.0 (i + 1) (applied s a) end l.1.1 b.1 (omega arith) ∙ ap (λ t. Ok (t, end)) (sym (after_on s a more b.0))
   where
     rest : Read State → Read State
     rest x = onward x λ t. rules_at (length more) bs t.1 (i + 1) t.0
-
-    done : T (applicable s a) → performed s a i ≡ Ok (applied s a)
-    done t =
-        ap (λ x. told (cond x (cond (creates a && eqb s.size 255) (Err Full) (Ok tt)) (Err NotApplicable)) i (applied s a)) (is_true _ t) ∙
-        ap (λ x. told (cond x (Err Full) (Ok tt)) i (applied s a)) (room_to a s.size (omega arith))

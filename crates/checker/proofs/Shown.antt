@@ -22,7 +22,8 @@ use Rattle.codec.specs.declared.fault.Fault.TheVariants.{UnknownKind}
 use Rattle.codec.specs.declared.fault.Fault.{Fault}
 use Rattle.checker.proofs.Exact.{none_right, right_none}
 use Rattle.checker.proofs.Performed.{rules_performed, performed_rules}
-use Rattle.checker.proofs.Ways.{ok_same, reading_ok, checking_ok, passed, refused_not, one_of, reading_on, checking_on, question_there}
+use Rattle.codec.proofs.Inverted.{ok_same, passed, refused_not}
+use Rattle.checker.proofs.Ways.{reading_ok, checking_ok, one_of, reading_on, checking_on, question_there}
 
 -- What is known of the state of a book that was read.
 pub record Opened (s : State) : Type 0 where
@@ -30,7 +31,7 @@ pub record Opened (s : State) : Type 0 where
   pub few : s.size ≤ 255
 
 pub opened_none : (bs : List ℕ) (f : Fault) → ◌≡◌ {A = Read State} (Err f) (narrow_book_at bs) → (s : State) (at : ℕ) → narrow_book_at bs ≡ Ok (s, at) → Opened s
-opened_none bs f none s at e = absurd (let z : ◌≡◌ {A = ℕ} 0 1 = cc in omega arith)
+opened_none bs f none s at e = cc
 
 pub opened_graph : (bs : List ℕ) (g : Graph) (behind : ℕ) → ◌≡◌ {A = Read State} (Ok (state g, behind)) (narrow_book_at bs) → (s : State) (at : ℕ) → narrow_book_at bs ≡ Ok (s, at) → Opened s
 opened_graph bs g behind read s at e =
@@ -39,7 +40,7 @@ opened_graph bs g behind read s at e =
 
 no_fault : (o : Option CheckFault) → verdict o ≡ Ok tt → o ≡ None
 no_fault None e = refl
-no_fault (Some f) e = absurd (let z : ◌≡◌ {A = ℕ} 0 1 = cc in omega arith)
+no_fault (Some f) e = cc
 
 module _ (bs : List ℕ) (opened : (s : State) (at : ℕ) → narrow_book_at bs ≡ Ok (s, at) → Opened s) where
   witness_right : (a : Asked bs 16) → witness_checked bs a.book a.question a.body ≡ Ok tt → RightWitness bs

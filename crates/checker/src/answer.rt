@@ -31,9 +31,9 @@ fn read_set(sheet: &mut Reader, size: u8) -> Result<VertexSet, CheckFault>
 pub fn read_length(plan: &mut Reader) -> Result<u32, Fault>
     ensures { Reads result plan.old plan.new length_at }
 {
-    let high = plan.count()?;
-    let low = plan.count()?;
-    Ok(u32::from(high) * 65536 + u32::from(low))
+    let [a, b] = plan.count()?.to_be_bytes();
+    let [c, d] = plan.count()?.to_be_bytes();
+    Ok(u32::from_be_bytes([a, b, c, d]))
 }
 
 // Nothing may follow an answer.

@@ -42,15 +42,16 @@ impl Claim {
         ensures targets { holds result.targets ≡ only question.target }
     {
         Claim {
-            holders: single(question.holder),
+            holders: VertexSet::only(usize::from(question.holder)),
             right: question.right,
-            targets: single(question.target),
+            targets: VertexSet::only(usize::from(question.target)),
         }
     }
 }
 
 impl Certificate {
     // The first fault of the certificate for this claim. None exactly if it is right, and then the claim is true.
+    #[tactic(auto, unfolding(crate::specs::First::first_below))]
     pub fn first_fault(&self, graph: &Graph, claim: &Claim) -> Option<CheckFault>
         ensures right { not (is_some result) ≡ is_right (state graph.now) (holds claim.now.holders) claim.now.right (holds claim.now.targets) (certificate self.now) }
         ensures never { is_some result ≡ false → NeverHave (state graph.now) (holds claim.now.holders) claim.now.right (holds claim.now.targets) }
@@ -80,7 +81,6 @@ struct Look<'a> {
 impl Look<'_> {
     // What is wrong with this vertex, of each kind.
     fn at(&self, p: Vertex) -> Looked
-        requires { p < (state self.now.graph.now).size }
         ensures { result ≡ looked_at (state self.now.graph.now) (holds self.now.claim.now.holders) self.now.claim.now.right (holds self.now.claim.now.targets) (certificate self.now.sets.now) p }
     {
         let has = self.has_one(p);
@@ -106,7 +106,6 @@ impl Look<'_> {
 
     // What breaks a condition: the vertex alone, or else the first of its takes and grants.
     fn unfit(&self, p: Vertex) -> Option<CheckFault>
-        requires { p < (state self.now.graph.now).size }
         ensures { result ≡ unfit_at (state self.now.graph.now) (holds self.now.claim.now.holders) (certificate self.now.sets.now) p }
     {
         let fits = self.standing(p).fits();
@@ -117,7 +116,6 @@ impl Look<'_> {
     }
 
     fn standing(&self, p: Vertex) -> Standing
-        requires { p < (state self.now.graph.now).size }
         ensures { standing_fits result ≡ vertex_fits (state self.now.graph.now) (holds self.now.claim.now.holders) (certificate self.now.sets.now) p }
     {
         Standing {
@@ -129,7 +127,7 @@ impl Look<'_> {
         }
     }
 
-    // Whom p has take to and shouldn't: what one of O has take to is in O, and what has take to one of I is in I.
+    // Whom p has take to and shouldn't: what one of O (`out`) has take to is in O, and what has take to one of I (`into`) is in I.
     fn unfit_takes(&self, p: Vertex) -> VertexSet
         ensures { (k : ℕ) → holds result k ≡ take_broken (state self.now.graph.now) (certificate self.now.sets.now) p k }
     {
@@ -234,12 +232,4 @@ fn when(test: bool, set: VertexSet) -> VertexSet
     ensures { (k : ℕ) → holds result k ≡ (test && holds set k) }
 {
     if test { set } else { VertexSet::empty() }
-}
-
-fn single(v: Vertex) -> VertexSet
-    ensures { holds result ≡ only v }
-{
-    let mut set = VertexSet::empty();
-    set.insert(v);
-    set
 }

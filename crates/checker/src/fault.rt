@@ -111,6 +111,7 @@ impl fmt::Display for Place {
     }
 }
 
+// By hand, as codec's faults are.
 impl fmt::Display for CheckFault {
     fn fmt<W: fmt::Write>(&self, f: &mut fmt::Formatter<W>) -> fmt::Result {
         match *self {

@@ -8,7 +8,7 @@ ghost use Rattle.model.specs.Promise.{longest_witness_len};
 use codec::{Fault, Reader, apply_act};
 use graph::Graph;
 
-// The most rules of a witness for a graph of so many vertices. None has to be longer.
+// The most rules of a witness for a graph of so many vertices. None has to be longer. Said here again, since the checker stands on nothing that makes plans.
 pub fn longest_witness(size: u8) -> u32
     ensures { result ≡ longest_witness_len size }
 {

@@ -4,11 +4,10 @@ use Rattle.std.proofs.lemmas.Bool.{eqb-true}
 use Rattle.model.specs.declared.Rule.{Rule}
 use Rattle.model.specs.declared.Rule.TheVariants.{Take, Grant, Create, Remove}
 use Rattle.codec.specs.declared.act.Transfer.{Transfer}
-use Rattle.codec.specs.declared.fault.Fault.TheVariants.{UnknownKind, BadFlag}
 use Rattle.codec.specs.Reading.{Read, ◌then◌, flag_at}
 use Rattle.codec.specs.Acts.{act_at, taking_at, grant_at, create_at, remove_at, transfer_at, flag_byte, act_bytes}
 use Rattle.codec.specs.Played.{InRange}
-use Rattle.codec.proofs.Inverted.{Byte, ok_same, never_ok, then_ok, cond_ways, then_on, byte_read, below_read, byte_ok, below_ok}
+use Rattle.codec.proofs.Inverted.{passed, Byte, ok_same, then_ok, cond_ways, then_on, byte_read, below_read, byte_ok, below_ok}
 use Rattle.codec.proofs.Stands.{Stands}
 
 abbrev transfer_bytes : Transfer → List ℕ
@@ -71,10 +70,7 @@ module _ (bs : List ℕ) (bytes : (i : ℕ) → get_or bs i 0 < 256) (n : ℕ) w
       let a = byte_ok bs at _ p.0 p.1 in
       elim (cond_ways (eqb a.0 0) _ _ _ a.2) [
         | inl z ↦ (false, subst (Byte bs at) (eqb-true a.0 0 z.0) a.1, subst (λ (x : Bool × ℕ). f x.0 x.1 ≡ Ok r) (sym (ok_same (false, at + 1) p.0 z.1)) p.2)
-        | inr y ↦ elim (cond_ways (eqb a.0 1) _ _ _ y.1) [
-          | inl z ↦ (true, subst (Byte bs at) (eqb-true a.0 1 z.0) a.1, subst (λ (x : Bool × ℕ). f x.0 x.1 ≡ Ok r) (sym (ok_same (true, at + 1) p.0 z.1)) p.2)
-          | inr z ↦ never_ok (BadFlag at) p.0 z.1
-        ]
+        | inr y ↦ (let z = passed (eqb a.0 1) _ _ p.0 y.1 in (true, subst (Byte bs at) (eqb-true a.0 1 z.0) a.1, subst (λ (x : Bool × ℕ). f x.0 x.1 ≡ Ok r) (sym (ok_same (true, at + 1) p.0 z.1)) p.2))
       ]
 
   module _ (at : ℕ) (r : Rule × ℕ) where
@@ -116,10 +112,7 @@ module _ (bs : List ℕ) (bytes : (i : ℕ) → get_or bs i 0 < 256) (n : ℕ) w
             | inl z ↦ grant_ok (kind 3 z.0) z.1
             | inr x ↦ elim (cond_ways (eqb k.0 4) _ _ _ x.1) [
               | inl z ↦ create_ok (kind 4 z.0) z.1
-              | inr w ↦ elim (cond_ways (eqb k.0 5) _ _ _ w.1) [
-                | inl z ↦ remove_ok (kind 5 z.0) z.1
-                | inr z ↦ never_ok (UnknownKind at) r z.1
-              ]
+              | inr w ↦ (let z = passed (eqb k.0 5) _ _ r w.1 in remove_ok (kind 5 z.0) z.1)
             ]
           ]
         ]

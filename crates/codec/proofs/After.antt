@@ -1,13 +1,14 @@
 -- A state that a book can be written for stays one, whatever acts in range are done.
-use Rattle.std.proofs.Common.{◌≡◌, ℕ, suc, ◌<◌, Bool, true, false, cond, not, ◌&&◌, ◌||◌, T, eqb, List, [], ◌∷◌, length, Ok, sym, refl, ap, ◌∙◌, subst, inl, inr, arith, eqb→eq}
-use Rattle.std.proofs.lemmas.Bool.{cases_lt, eqb-true}
+use Rattle.std.proofs.Common.{ℕ, suc, ◌<◌, Bool, not, ◌&&◌, ◌||◌, T, List, [], ◌∷◌, length, Ok, sym, ap, ◌∙◌, subst, inl, inr, arith}
+use Rattle.std.proofs.lemmas.Bool.{cases_lt}
+use Rattle.std.proofs.lemmas.Bool.Decides.{nat_tests}
 use Rattle.bits.proofs.Bit.{bit_past}
 use Rattle.model.specs.Bit.{bit}
 use Rattle.model.specs.State.{State}
 use Rattle.model.specs.Rules.{this_right, given, removed, created, applicable, applied, after, all_applicable}
 use Rattle.model.specs.declared.Rule.{Rule}
 use Rattle.model.specs.declared.Rule.TheVariants.{Take, Grant, Create, Remove}
-use Rattle.model.proofs.Tests.{parts, cases}
+use Rattle.model.proofs.Tests.{parts}
 use Rattle.codec.specs.Bookable.{Bookable}
 use Rattle.codec.specs.Books.{book_at}
 use Rattle.codec.specs.Played.{InRange, Readable}
@@ -28,16 +29,10 @@ module _ (s : State) (b : Bookable s) where
     where
       within : (p k q : ℕ) → T (this_right x r y p k q || s.has p k q) → (p < s.size) × (k < 8) × (q < s.size)
       within p k q t =
-          elim (cases (this_right x r y p k q) (s.has p k q) t) [
-            | inl h ↦
-                let a = parts (eqb p x) _ h in
-                let c = parts (eqb k r) (eqb q y) a.1 in
-                let ep = eqb→eq p x a.0 in
-                let ek = eqb→eq k r c.0 in
-                let eq = eqb→eq q y c.1 in
-                (omega arith, omega arith, omega arith)
-            | inr h ↦ (b.formed.holder p k q h, b.rights p k q h, b.formed.target p k q h)
-          ]
+          let h = b.formed.holder p k q in
+          let r = b.rights p k q in
+          let g = b.formed.target p k q in
+          (grind (arith, nat_tests), grind (arith, nat_tests), grind (arith, nat_tests))
 
   removed_bookable : (x r y : ℕ) → Bookable (removed x r y s)
   removed_bookable x r y =
@@ -58,31 +53,20 @@ module _ (s : State) (b : Bookable s) where
         some = omega arith;
         few = few;
         formed = record { holder = λ p k q t. (within p k q t).0; target = λ p k q t. (within p k q t).2 };
-        acting = λ p. acts p (eqb p s.size) (eqb-true p s.size);
+        acting = λ p t. let l = b.acting p in grind (arith, nat_tests);
         rights = λ p k q t. (within p k q t).1;
       }
     where
-      acts : (p : ℕ) (new : Bool) → (new ≡ true → p ≡ s.size) → T (cond new acting (s.subject p)) → p < suc s.size
-      acts p true e t = let z = e refl in omega arith
-      acts p false e t = let l = b.acting p t in omega arith
-
       right_below : (k : ℕ) → T (bit rights k) → k < 8
       right_below k t = elim (cases_lt k 8) [ inl l ↦ l | inr l ↦ absurd (subst T (bit_past 8 rights k lr l) t) ]
 
-      found : (p k q : ℕ) (to from : Bool) → (to ≡ true → q ≡ s.size) → T (cond to (eqb p x && bit rights k) (cond from false (s.has p k q))) → (p < suc s.size) × (k < 8) × (q < suc s.size)
-      found p k q true from e t =
-          let a = parts (eqb p x) (bit rights k) t in
-          let z = e refl in
-          let y = eqb→eq p x a.0 in
-          (omega arith, right_below k a.1, omega arith)
-      found p k q false true e t = absurd t
-      found p k q false false e t =
-          let l = b.formed.holder p k q t in
-          let m = b.formed.target p k q t in
-          (omega arith, b.rights p k q t, omega arith)
-
       within : (p k q : ℕ) → T ((created x acting rights s).has p k q) → (p < suc s.size) × (k < 8) × (q < suc s.size)
-      within p k q t = found p k q (eqb q s.size) (eqb p s.size) (eqb-true q s.size) t
+      within p k q t =
+          let h = b.formed.holder p k q in
+          let r = b.rights p k q in
+          let g = b.formed.target p k q in
+          let low = right_below k in
+          (grind (arith, nat_tests), grind (arith, nat_tests), grind (arith, nat_tests))
 
 pub applied_bookable : (s : State) (a : Rule) → Bookable s → InRange s.size a → (applied s a).size < 256 → Bookable (applied s a)
 applied_bookable s (Take t) b r l = given_bookable s b t.who t.right t.to r.0 r.2 r.3

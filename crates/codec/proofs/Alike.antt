@@ -15,7 +15,7 @@ use Rattle.codec.specs.Reading.{Read, byte_at, flag_at, count_at}
 use Rattle.codec.specs.Acts.{act_at, taking_at, grant_at, create_at, remove_at, transfer_at}
 use Rattle.codec.specs.Books.{layout_at, least_size, most_size, size_at, set_width, set_byte_at, end_of_set, subjects_at, held_at, past, first, rights_at, vertices_at, book_at}
 use Rattle.codec.proofs.Looked.{Same, part_same, behind, Both, done_both, less_both, test_both, onward_both, then_both, byte_both, byte_then, below_then}
-use Rattle.codec.proofs.Subjects.{set_read-law}
+use Rattle.codec.proofs.SetBytes.{set_read-law}
 
 module _ (bs cs : List ℕ) (k : ℕ) (same : Same k bs cs) where
   -- An answer that looks at nothing more.

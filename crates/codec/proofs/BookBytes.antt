@@ -1,23 +1,27 @@
 -- A book is read from its bytes, and from no others.
-use Rattle.std.proofs.Common.{◌≡◌, ℕ, ◌+◌, ◌*◌, ◌<◌, ◌≤◌, Bool, cond, ◌&&◌, T, eqb, ltb, leb, List, ◌∷◌, ◌++◌, length, get_or, Ok, sym, refl, ap, ◌∙◌, subst, inl, inr, zero-add, arith, ltb→lt}
+use Rattle.std.proofs.Common.{◌≡◌, ℕ, ◌+◌, ◌*◌, ◌<◌, ◌≤◌, Bool, cond, ◌&&◌, T, eqb, ltb, leb, List, ◌∷◌, ◌++◌, length, get_or, Ok, sym, refl, ap, ◌∙◌, subst, inl, inr, zero-add, arith, ltb→lt, zero, suc, [], take, IfOk, Err, Result}
+use Rattle.std.proofs.lemmas.Bool.Decides.{nat_tests}
 use Rattle.std.proofs.lemmas.List.{length-append}
-use Rattle.std.proofs.lemmas.Bool.{eqb-true, leb-true, le-leb, lt-leb, and_from, and_parts, cond-true, cases_lt}
+use Rattle.std.proofs.lemmas.Bool.{eqb-true, leb-true, le-leb, lt-leb, and_from, and_parts, cond-true}
 use Rattle.bits.specs.Sets.{set_bytes}
 use Rattle.bits.proofs.Bytes.{length_set_bytes}
 use Rattle.model.specs.State.{State}
 use Rattle.model.proofs.Tests.{same, parts}
-use Rattle.graph.specs.Graphs.{bare}
+use Rattle.graph.specs.Graphs.{bare, state}
 use Rattle.codec.specs.declared.book.Layout.{Layout}
 use Rattle.codec.specs.declared.book.Layout.TheVariants.{Narrow, Wide}
-use Rattle.codec.specs.declared.fault.Fault.TheVariants.{UnknownKind, OutOfRange}
+use Rattle.codec.specs.declared.fault.Fault.TheVariants.{OutOfRange, Missing}
 use Rattle.codec.specs.Bookable.{Bookable}
-use Rattle.codec.specs.Reading.{Read, ◌then◌}
+use Rattle.codec.specs.Reading.{Read, ◌then◌, byte_at}
 use Rattle.codec.specs.Books.{layout_kind, least_size, most_size, set_width, layout_at, size_at, vertices_at, book_at}
 use Rattle.codec.specs.Writing.{layout_of, book_bytes}
-use Rattle.codec.proofs.Inverted.{Byte, ok_same, never_ok, then_ok, then_on, cond_ok, cond_ways, byte_read, byte_ok}
+use Rattle.codec.proofs.Inverted.{passed, Byte, ok_same, then_ok, then_on, cond_ok, cond_ways, byte_read, byte_ok}
 use Rattle.codec.proofs.Stands.{Stands, stands_append, stands_left, stands_right}
 use Rattle.codec.proofs.SetBytes.{subjects_read, subjects_ok}
 use Rattle.codec.proofs.Vertices.{state_same, vertices_from, vertices_front, until, vertices_read, Filled, VerticesStood, vertices_ok}
+use Rattle.graph.specs.declared.graph.Graph.{Graph}
+use Rattle.codec.specs.declared.reader.Reader.{Reader}
+use Rattle.codec.specs.declared.fault.Fault.{Fault}
 
 -- The number of vertices is one that the layout is for.
 pub record Suits (l : Layout) (n : ℕ) : Type 0 where
@@ -25,11 +29,7 @@ pub record Suits (l : Layout) (n : ℕ) : Type 0 where
   pub most : n ≤ most_size l
 
 layout_suits : (n : ℕ) → 0 < n → n < 256 → Suits (layout_of n) n
-layout_suits n some few =
-    elim (cases_lt 128 n) [
-      | inl l ↦ subst (λ b. Suits (cond b Narrow Wide) n) (sym (lt-leb n 128 l)) (record { least = l; most = omega arith })
-      | inr l ↦ subst (λ b. Suits (cond b Narrow Wide) n) (sym (le-leb n 128 l)) (record { least = some; most = l })
-    ]
+layout_suits n some few = record { least = grind (arith, nat_tests); most = grind (arith, nat_tests) }
 
 suits_layout : (l : Layout) (n : ℕ) → Suits l n → layout_of n ≡ l
 suits_layout Narrow n s = ap (λ b. cond b Narrow Wide) (le-leb n 128 s.most)
@@ -54,10 +54,7 @@ module _ (bs : List ℕ) where
       let a = byte_ok bs at _ p.0 p.1 in
       elim (cond_ways (eqb a.0 1) _ _ _ a.2) [
         | inl z ↦ (Narrow, subst (Byte bs at) (eqb-true a.0 1 z.0) a.1, subst (λ (x : Layout × ℕ). f x.0 x.1 ≡ Ok r) (sym (ok_same (Narrow, at + 1) p.0 z.1)) p.2)
-        | inr y ↦ elim (cond_ways (eqb a.0 7) _ _ _ y.1) [
-          | inl z ↦ (Wide, subst (Byte bs at) (eqb-true a.0 7 z.0) a.1, subst (λ (x : Layout × ℕ). f x.0 x.1 ≡ Ok r) (sym (ok_same (Wide, at + 1) p.0 z.1)) p.2)
-          | inr z ↦ never_ok (UnknownKind at) p.0 z.1
-        ]
+        | inr y ↦ (let z = passed (eqb a.0 7) _ _ p.0 y.1 in (Wide, subst (Byte bs at) (eqb-true a.0 7 z.0) a.1, subst (λ (x : Layout × ℕ). f x.0 x.1 ≡ Ok r) (sym (ok_same (Wide, at + 1) p.0 z.1)) p.2))
       ]
 
   size_ok : {B : Type 0} (l : Layout) (at : ℕ) (f : ℕ → ℕ → Read B) (r : B × ℕ) → (size_at bs l at then f) ≡ Ok r → (n : ℕ) × Byte bs at n × Suits l n × (f n (at + 1) ≡ Ok r)
@@ -143,3 +140,17 @@ book_ok bs bytes r e =
           stands = subst (Stands bs 0) (sym form) (kind, (size, stands_append bs (set_bytes (set_width l) f) (vertices_from s 0 n) 2 set (subst (λ k. Stands bs (2 + k) (vertices_from s 0 n)) (sym wide) v.stands)));
           ends = let a = length-append (set_bytes (set_width l) f) (vertices_from s 0 n) in let b = ap length form in let c = v.ends in omega arith;
         }
+
+-- A book that begins with 1 has at most 128 vertices.
+begins : (s : State) (bs : List ℕ) (k : ℕ) → take k bs ≡ book_bytes s → get_or bs 0 0 ≡ layout_kind (layout_of s.size)
+unfolding book_bytes
+begins s bs zero e = absurd (let z : ◌≡◌ {A = ℕ} 0 1 = cc in omega arith)
+begins s [] (suc k) e = absurd (let z : ◌≡◌ {A = ℕ} 0 1 = cc in omega arith)
+begins s (b ∷ bs) (suc k) e = cc
+
+pub first_byte : (bs : List ℕ) (b next : ℕ) → ◌≡◌ {A = Read ℕ} (byte_at bs 0) (Ok (b, next)) → get_or bs 0 0 ≡ b
+first_byte bs b next e = ap (λ (p : ℕ × ℕ). p.0) (cond_ok (ltb 0 (length bs)) (get_or bs 0 0, 0 + 1) (b, next) (Missing (length bs)) e).1
+
+pub few : (bs : List ℕ) → get_or bs 0 0 ≡ 1 → (r : Result (Graph × Reader) Fault) → IfOk r (λ p. take p.1.at bs ≡ book_bytes (state p.0)) → IfOk r (λ p. (state p.0).size ≤ 128)
+few bs one (Ok p) says = let e = begins (state p.0) bs p.1.at says in grind (arith, nat_tests)
+few bs one (Err f) says = tt

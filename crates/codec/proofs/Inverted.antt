@@ -1,9 +1,11 @@
 -- What an answer that went well says of its steps, and steps that go well.
-use Rattle.std.proofs.Common.{◌≡◌, ℕ, ◌+◌, ◌<◌, Bool, true, false, cond, ltb, ◌⊎◌, List, length, get_or, Ok, Err, Result, sym, refl, ap, ◌∙◌, subst, inl, inr, arith}
-use Rattle.std.proofs.lemmas.Bool.{ltb-true, lt-ltb, cond-true}
+use Rattle.std.proofs.Common.{◌≡◌, ℕ, ◌+◌, ◌<◌, Bool, true, false, cond, ltb, ◌⊎◌, List, length, get_or, Ok, Err, Result, sym, refl, ap, ◌∙◌, subst, inl, inr, arith, eqb, ap₂, ne_eqb}
+use Rattle.std.proofs.lemmas.Bool.{ltb-true, lt-ltb, cond-true, cond-false}
 use Rattle.codec.specs.declared.fault.Fault.{Fault}
-use Rattle.codec.specs.declared.fault.Fault.TheVariants.{Missing, OutOfRange}
+use Rattle.codec.specs.declared.fault.Fault.TheVariants.{Missing, OutOfRange, UnknownKind}
 use Rattle.codec.specs.Reading.{Read, onward, ◌then◌, byte_at, below_at}
+use Rattle.codec.specs.declared.kind.Kind.{Kind}
+use Rattle.codec.specs.Kinds.{kind_number, IsNoKind, IsNoKindAt}
 
 pub ok_same : {A : Type 0} (a b : A) → ◌≡◌ {A = Result A Fault} (Ok a) (Ok b) → a ≡ b
 ok_same a b e = cc
@@ -33,6 +35,15 @@ then_ok {A} {B} (Err d) f b e = never_ok d b e
 pub cond_ok : {A : Type 0} (t : Bool) (a b : A) (d : Fault) → cond t (Ok a) (Err d) ≡ Ok b → (t ≡ true) × (a ≡ b)
 cond_ok true a b d e = (refl, cc)
 cond_ok false a b d e = never_ok d b e
+
+-- A test that was passed, and one that would have refused.
+pub passed : {A E : Type 0} (t : Bool) (r : Result A E) (d : E) (b : A) → cond t r (Err d) ≡ Ok b → (t ≡ true) × (r ≡ Ok b)
+passed true r d b e = (refl, e)
+passed {A} {E} false r d b e = cc
+
+pub refused_not : {A E : Type 0} (t : Bool) (d : E) (r : Result A E) (b : A) → cond t (Err d) r ≡ Ok b → (t ≡ false) × (r ≡ Ok b)
+refused_not {A} {E} true d r b e = cc
+refused_not false d r b e = (refl, e)
 
 -- A condition that led to an answer: by which way.
 pub cond_ways : {A : Type 0} (t : Bool) (x y z : A) → cond t x y ≡ z → ((t ≡ true) × (x ≡ z)) ⊎ ((t ≡ false) × (y ≡ z))
@@ -71,3 +82,18 @@ below_ok bs at n f r e =
     let q = byte_ok bs at (λ b next. cond (ltb b n) (Ok (b, next)) (Err (OutOfRange at))) p.0 p.1 in
     let c = cond_ok (ltb q.0 n) (q.0, at + 1) p.0 (OutOfRange at) q.2 in
     (q.0, q.1, ltb-true _ _ c.0, subst (λ (a : ℕ × ℕ). f a.0 a.1 ≡ Ok r) (sym c.1) p.2)
+
+-- The numbers of kinds: each is that of one kind, and a record that begins with none of them is refused, whatever may stand there.
+-- Where no kind is, a test for one fails.
+pub not_kind : {A : Type 0} (kind : Kind) (n : ℕ) (x y : A) → IsNoKind n → cond (eqb n (kind_number kind)) x y ≡ y
+not_kind kind n x y none = cond-false (eqb n (kind_number kind)) x y (ne_eqb n (kind_number kind) (λ e. none kind (sym e)))
+
+pub no_kind : {B : Type 0} (bs : List ℕ) (at : ℕ) (f : Fault) (g : ℕ → ℕ → Read B) → IsNoKindAt bs at f → ((n next : ℕ) → IsNoKind n → g n next ≡ Err (UnknownKind at)) → Err f ≡ (byte_at bs at then g)
+no_kind bs at f g h unknown =
+    elim h [
+      | inl e ↦ ap (λ r. r then g) (sym e)
+      | inr k ↦ ap (λ d. Err d) k.3 ∙ sym (then_on k.0.0 k.0.1 g k.1 (unknown k.0.0 k.0.1 k.2))
+    ]
+
+pub no_kind_in : {bs cs : List ℕ} {at start : ℕ} {f : Fault} → cs ≡ bs → start ≡ at → IsNoKindAt cs start f → IsNoKindAt bs at f
+no_kind_in {f} e g h = subst (λ (x : List ℕ × ℕ). IsNoKindAt x.0 x.1 f) (ap₂ (λ x y. (x, y)) e g) h

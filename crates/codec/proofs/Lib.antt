@@ -1,14 +1,9 @@
 pub mod Inverted
-pub mod KindNumbers
 pub mod Stands
 pub mod ActBytes
 pub mod Codes
-pub mod HeldBytes
-pub mod Gave
 pub mod Rights
-pub mod Vertex
 pub mod Vertices
-pub mod Subjects
 pub mod SetBytes
 pub mod BookBytes
 pub mod RoundTrips
@@ -19,7 +14,5 @@ pub mod Played
 pub mod After
 pub mod Looked
 pub mod Alike
-pub mod Broken
 pub mod Told
 pub mod Written
-pub mod Narrow

@@ -1,7 +1,8 @@
 -- Reading looks at the bytes one after the other: what two inputs have alike is read alike, and a fault is told at a byte that was looked at.
 use Rattle.std.proofs.Common.{◌≡◌, ℕ, ◌+◌, ◌<◌, ◌≤◌, Bool, true, false, cond, ltb, ◌⊎◌, List, length, get_or, take, drop, Ok, Err, Result, sym, refl, ap, ◌∙◌, subst, inl, inr, arith}
+use Rattle.std.proofs.lemmas.Bool.Decides.{nat_tests}
 use Rattle.std.proofs.lemmas.List.{get_or-take, take-take, drop-take}
-use Rattle.std.proofs.lemmas.Bool.{lt-ltb, ltb-true, cond-true, cond_both, cases_lt}
+use Rattle.std.proofs.lemmas.Bool.{ltb-true, cond_both, cases_lt}
 use Rattle.codec.specs.declared.fault.Fault.{Fault}
 use Rattle.codec.specs.declared.fault.Fault.TheVariants.{UnknownKind, BadFlag, Missing, OutOfRange, NotRising, NotApplicable, Full}
 use Rattle.codec.specs.Reading.{Read, onward, ◌then◌, byte_at, below_at}
@@ -15,11 +16,12 @@ pub record Same (k : ℕ) (bs cs : List ℕ) : Type 0 where
 
 pub byte_same : (k : ℕ) (bs cs : List ℕ) → Same k bs cs → (j : ℕ) → j < k → byte_at bs j ≡ byte_at cs j
 byte_same k bs cs s j h =
-    let a = s.left in
-    let b = s.right in
-    cond-true (ltb j (length bs)) _ _ (lt-ltb j (length bs) (omega arith)) ∙
-    (ap (λ x. Ok (x, j + 1)) (sym (get_or-take k bs j 0 h) ∙ (ap (λ x. get_or x j 0) s.alike ∙ get_or-take k cs j 0 h)) ∙
-    sym (cond-true (ltb j (length cs)) _ _ (lt-ltb j (length cs) (omega arith))))
+    let a = get_or-take k bs j 0 h in
+    let b = get_or-take k cs j 0 h in
+    let e = ap (λ x. get_or x j 0) s.alike in
+    let l = s.left in
+    let r = s.right in
+    grind (arith, nat_tests)
 
 pub part_same : (k : ℕ) (bs cs : List ℕ) → Same k bs cs → (at w : ℕ) → at + w ≤ k → take w (drop at bs) ≡ take w (drop at cs)
 part_same k bs cs s at w h =

@@ -1,28 +1,23 @@
 -- An act that was read: when it is done, and why it is not.
-use Rattle.std.proofs.Common.{◌≡◌, ℕ, ◌<◌, ◌≤◌, false, ◌&&◌, T, eqb, ◌⊎◌, List, [], ◌∷◌, Ok, Err, sym, refl, ap, ◌∙◌, inl, inr, arith}
-use Rattle.std.proofs.lemmas.Bool.{cases_Bool, cond-true, cond-false, ne_eqb, eq-eqb, eqb-true, eqb-false, and_parts, and_from}
+use Rattle.std.proofs.Common.{◌≡◌, ℕ, ◌<◌, ◌≤◌, false, ◌&&◌, T, eqb, ◌⊎◌, List, [], ◌∷◌, Ok, Err, refl, ap, ◌∙◌, inl, inr, arith}
+use Rattle.std.proofs.lemmas.Bool.{cases_Bool, cond-true, cond-false, ne_eqb, eq-eqb, eqb-false, and_from}
 use Rattle.model.specs.State.{State}
 use Rattle.model.specs.Rules.{applicable, applied, after, all_applicable}
 use Rattle.model.specs.declared.Rule.{Rule}
 use Rattle.model.specs.declared.Rule.TheVariants.{Take, Grant, Create, Remove}
 use Rattle.model.proofs.Tests.{parts, is_true, is_false, from_true, from_false}
+use Rattle.model.proofs.Grown.{applied_size}
+use Rattle.std.proofs.lemmas.Bool.Decides.{nat_tests}
 use Rattle.graph.specs.Graphs.{creates}
 use Rattle.codec.specs.declared.fault.Fault.{Fault}
 use Rattle.codec.specs.declared.fault.Fault.TheVariants.{NotApplicable, Full}
 use Rattle.codec.specs.Replay.{told, performed}
 use Rattle.codec.specs.Told.{MayNot, NoRoom}
-use Rattle.codec.proofs.Inverted.{ok_same, err_same, never_ok, never_err}
 
 -- The state after acts that may be done.
 pub after_on : (s : State) (a : Rule) (more : List Rule) → T (applicable s a) → after s (a ∷ more) ≡ after (applied s a) more
 unfolding after
 after_on s a more t = ap (λ u. after u more) (cond-true (applicable s a) _ _ (is_true _ t))
-
-applied_grows : (s : State) (a : Rule) → s.size ≤ (applied s a).size
-applied_grows s (Take t) = omega arith
-applied_grows s (Grant g) = omega arith
-applied_grows s (Create c) = omega arith
-applied_grows s (Remove d) = omega arith
 
 pub after_grows : (s : State) (acts : List Rule) → T (all_applicable s acts) → s.size ≤ (after s acts).size
 unfolding all_applicable after
@@ -30,7 +25,7 @@ after_grows s [] t = omega arith
 after_grows s (a ∷ more) t =
     let h = parts (applicable s a) (all_applicable (applied s a) more) t in
     let g = after_grows (applied s a) more h.1 in
-    let l = applied_grows s a in
+    let l = applied_size s a in
     let e = ap (λ u. u.size) (after_on s a more h.0) in
     omega arith
 
@@ -57,16 +52,7 @@ pub record DoneWell (s : State) (a : Rule) (t : State) : Type 0 where
   pub result : t ≡ applied s a
 
 pub performed_ok : (s : State) (a : Rule) (i : ℕ) (t : State) → performed s a i ≡ Ok t → DoneWell s a t
-performed_ok s a i t e =
-    elim (cases_Bool (applicable s a)) [
-      | inl y ↦ elim (cases_Bool (creates a && eqb s.size 255)) [
-        | inl full ↦ never_ok (Full i) t (sym (ap (λ o. told o i (applied s a)) (cond-true (applicable s a) _ _ y ∙ cond-true (creates a && eqb s.size 255) _ _ full)) ∙ e)
-        | inr room ↦
-            let g = sym (ap (λ o. told o i (applied s a)) (cond-true (applicable s a) _ _ y ∙ cond-false (creates a && eqb s.size 255) _ _ room)) ∙ e in
-            record { may = from_true _ y; room = λ l. room_enough s a l room; result = sym (ok_same (applied s a) t g) }
-      ]
-      | inr n ↦ never_ok (NotApplicable i) t (sym (ap (λ o. told o i (applied s a)) (cond-false (applicable s a) _ _ n)) ∙ e)
-    ]
+performed_ok s a i t e = record { may = grind (arith, nat_tests); room = λ l. room_enough s a l (grind (arith, nat_tests)); result = grind (arith, nat_tests) }
 
 -- The two reasons.
 pub performed_not : (s : State) (a : Rule) (i : ℕ) → MayNot s a → performed s a i ≡ Err (NotApplicable i)
@@ -79,12 +65,6 @@ performed_full s a i h =
 pub performed_err : (s : State) (a : Rule) (i : ℕ) (f : Fault) → performed s a i ≡ Err f → ((NotApplicable i ≡ f) × MayNot s a) ⊎ ((Full i ≡ f) × NoRoom s a)
 performed_err s a i f e =
     elim (cases_Bool (applicable s a)) [
-      | inl y ↦ elim (cases_Bool (creates a && eqb s.size 255)) [
-        | inl full ↦
-            let p = and_parts (creates a) (eqb s.size 255) full in
-            let why : NoRoom s a = (from_true _ y, from_true _ p.0, eqb-true s.size 255 p.1) in
-            inr (err_same (Full i) f (sym (performed_full s a i why) ∙ e), why)
-        | inr room ↦ never_err (applied s a) f (sym (ap (λ o. told o i (applied s a)) (cond-true (applicable s a) _ _ y ∙ cond-false (creates a && eqb s.size 255) _ _ room)) ∙ e)
-      ]
-      | inr n ↦ (let why : MayNot s a = from_false _ n in inl (err_same (NotApplicable i) f (sym (performed_not s a i why) ∙ e), why))
+      | inl y ↦ inr (grind (arith, nat_tests), (from_true _ y, grind (arith, nat_tests), grind (arith, nat_tests)))
+      | inr n ↦ inl (grind (arith, nat_tests), from_false _ n)
     ]

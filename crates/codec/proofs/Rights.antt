@@ -1,16 +1,15 @@
 -- The rights of one vertex are read from the bytes of a rising list, and from no others.
-use Rattle.std.proofs.Common.{◌≡◌, ℕ, zero, suc, ◌+◌, ◌*◌, ◌/◌, ◌%◌, ◌<◌, ◌≤◌, false, ◌&&◌, eqb, ltb, List, [], ◌∷◌, length, Ok, sym, refl, ap, ◌∙◌, subst, inl, inr, arith}
-use Rattle.std.proofs.lemmas.Bool.{ltb-false, le-ltb, ne_eqb, cases_eq, cond-false, and_left, and_right, and_cases, eqb-false}
+use Rattle.std.proofs.Common.{◌≡◌, ℕ, zero, suc, ◌+◌, ◌*◌, ◌/◌, ◌%◌, ◌<◌, ◌≤◌, false, ◌&&◌, eqb, ltb, List, [], ◌∷◌, length, Ok, sym, refl, ap, ◌∙◌, subst, arith, get_or, ap₂}
+use Rattle.std.proofs.lemmas.Bool.{cond-false}
+use Rattle.std.proofs.lemmas.Bool.Decides.{nat_tests}
 use Rattle.model.specs.State.{State}
 use Rattle.model.specs.Rules.{given}
 use Rattle.codec.specs.declared.book.Held.{Held}
-use Rattle.codec.specs.declared.fault.Fault.TheVariants.{NotRising}
-use Rattle.codec.specs.Reading.{Read, ◌then◌}
-use Rattle.codec.specs.Books.{held_at, rights_at, past}
-use Rattle.codec.proofs.Inverted.{Byte, ok_same, never_ok, then_ok, then_on, cond_ways, below_read, below_ok}
+use Rattle.codec.specs.Reading.{Read, ◌then◌, count_at}
+use Rattle.codec.specs.Books.{held_at, rights_at, past, first}
+use Rattle.codec.proofs.Inverted.{refused_not, Byte, ok_same, then_ok, then_on, below_read, below_ok, byte_read, byte_ok}
 use Rattle.codec.proofs.Stands.{Stands}
-use Rattle.codec.proofs.Codes.{Listed, pairs}
-use Rattle.codec.proofs.Gave.{gave}
+use Rattle.codec.proofs.Codes.{Listed, pairs, gave}
 
 abbrev pub place : Held → ℕ
 place h = 256 * h.right + h.to
@@ -20,21 +19,10 @@ held_of c = record { right = c / 256; to = c % 256 }
 
 -- Lower than `least` is what has a lower number.
 not_lower : (least : Held) (r q : ℕ) → q < 256 → place least ≤ 256 * r + q → (ltb r least.right ≡ false) × ((eqb r least.right && ltb q least.to) ≡ false)
-not_lower least r q l h = (le-ltb r least.right (omega arith), second)
-  where
-    second : (eqb r least.right && ltb q least.to) ≡ false
-    second = elim (cases_eq r least.right) [
-      | inl e ↦ and_right _ _ (le-ltb q least.to (omega arith))
-      | inr d ↦ and_left _ _ (ne_eqb r least.right d)
-    ]
+not_lower least r q l h = (grind (arith, nat_tests), grind (arith, nat_tests))
 
 not_lower_back : (least : Held) (r q : ℕ) → least.to ≤ 256 → ltb r least.right ≡ false → (eqb r least.right && ltb q least.to) ≡ false → place least ≤ 256 * r + q
-not_lower_back least r q small a b =
-    let h = ltb-false r least.right a in
-    elim (and_cases _ _ b) [
-      | inl d ↦ (let ne : r ≡ least.right → ⊥ = eqb-false r least.right d in omega arith)
-      | inr l ↦ (let k = ltb-false q least.to l in omega arith)
-    ]
+not_lower_back least r q small a b = grind (arith, nat_tests)
 
 module _ (bs : List ℕ) (n : ℕ) (few : n ≤ 256) where
   -- One right.
@@ -67,17 +55,11 @@ module _ (bs : List ℕ) (n : ℕ) (few : n ≤ 256) where
   held_ok {B} least small at f r e =
       let h = then_ok (held_at bs n least at) f r e in
       let a = below_ok bs at 8 _ h.0 h.1 in
-      elim (cond_ways (ltb a.0 least.right) _ _ _ a.3) [
-        | inl z ↦ never_ok (NotRising at) h.0 z.1
-        | inr y ↦
-            let b = below_ok bs (at + 1) n _ h.0 y.1 in
-            elim (cond_ways (eqb a.0 least.right && ltb b.0 least.to) _ _ _ b.3) [
-              | inl z ↦ never_ok (NotRising (at + 1)) h.0 z.1
-              | inr z ↦
-                  let g = subst (λ (x : Held × ℕ). f x.0 x.1 ≡ Ok r) (sym (ok_same (record { right = a.0; to = b.0 }, at + 1 + 1) h.0 z.1)) h.2 in
-                  stood a.0 b.0 a.2 b.2 (not_lower_back least a.0 b.0 small y.0 z.0) a.1 b.1 g
-            ]
-      ]
+      let y = refused_not (ltb a.0 least.right) _ _ h.0 a.3 in
+      let b = below_ok bs (at + 1) n _ h.0 y.1 in
+      let z = refused_not (eqb a.0 least.right && ltb b.0 least.to) _ _ h.0 b.3 in
+      let g = subst (λ (x : Held × ℕ). f x.0 x.1 ≡ Ok r) (sym (ok_same (record { right = a.0; to = b.0 }, at + 1 + 1) h.0 z.1)) h.2 in
+      stood a.0 b.0 a.2 b.2 (not_lower_back least a.0 b.0 small y.0 z.0) a.1 b.1 g
     where
       stood : (x y : ℕ) → x < 8 → y < n → place least ≤ 256 * x + y → Byte bs at x → Byte bs (at + 1) y → f (record { right = x; to = y }) (at + 1 + 1) ≡ Ok r → HeldStood least at f r
       stood x y lx ly h bx by g =
@@ -122,3 +104,42 @@ module _ (bs : List ℕ) (n : ℕ) (few : n ≤ 256) where
             result = k.result;
             ends = let z = k.ends in omega arith;
           }
+
+-- One vertex, with its count.
+-- The bytes of a vertex with these rights.
+abbrev pub vertex_of : List ℕ → List ℕ
+vertex_of cs = length cs / 256 ∷ length cs % 256 ∷ pairs cs
+
+module _ (bs : List ℕ) (n : ℕ) (few : n ≤ 256) where
+  pub vertex_read : (p : ℕ) (cs : List ℕ) (at : ℕ) (u : State) (f : State → ℕ → Read State) → Listed n 0 cs → Stands bs at (vertex_of cs) → (count_at bs at then λ count next. rights_at bs n p count first next u then f) ≡ f (gave p cs u) (at + length (vertex_of cs))
+  vertex_read p cs at u f l h =
+      then_on (length cs) (at + 1 + 1) (λ count next. rights_at bs n p count first next u then f)
+      (then_on (length cs / 256) (at + 1) _ (byte_read bs at (length cs / 256) h.0)
+      (then_on (length cs % 256) (at + 1 + 1) _ (byte_read bs (at + 1) (length cs % 256) h.1.0) (ap (λ c. Ok (c, at + 1 + 1)) (let c : ℕ = length cs in omega arith))))
+      (then_on (gave p cs u) (at + 1 + 1 + length (pairs cs)) f (rights_read bs n few p cs first (at + 1 + 1) u l h.1.1) (ap (f (gave p cs u)) (omega arith)))
+
+  pub record VertexStood (p at : ℕ) (u : State) (f : State → ℕ → Read State) (r : State × ℕ) : Type 0 where
+    pub list : List ℕ
+    pub listed : Listed n 0 list
+    pub stands : Stands bs at (vertex_of list)
+    pub goes_on : f (gave p list u) (at + length (vertex_of list)) ≡ Ok r
+
+  pub vertex_ok : (p at : ℕ) (u : State) (f : State → ℕ → Read State) (r : State × ℕ) → ((i : ℕ) → get_or bs i 0 < 256) → (count_at bs at then λ count next. rights_at bs n p count first next u then f) ≡ Ok r → VertexStood p at u f r
+  vertex_ok p at u f r bytes e =
+      let h = then_ok (count_at bs at) _ r e in
+      let a = byte_ok bs at _ h.0 h.1 in
+      let b = byte_ok bs (at + 1) _ h.0 a.2 in
+      let g = subst (λ (x : ℕ × ℕ). (rights_at bs n p x.0 first x.1 u then f) ≡ Ok r) (sym (ok_same (256 * a.0 + b.0, at + 1 + 1) h.0 b.2)) h.2 in
+      let k = then_ok (rights_at bs n p (256 * a.0 + b.0) first (at + 1 + 1) u) f r g in
+      let s = rights_ok bs n few p (256 * a.0 + b.0) first (at + 1 + 1) u k.0 (omega arith) k.1 in
+      let many = s.many in
+      let ends = s.ends in
+      let small : b.0 < 256 = let i = b.1.is in let l = bytes (at + 1) in omega arith in
+      let hi : a.0 ≡ length s.list / 256 = omega arith in
+      let lo : b.0 ≡ length s.list % 256 = omega arith in
+      record {
+        list = s.list;
+        listed = s.listed;
+        stands = (record { there = a.1.there; is = a.1.is ∙ hi }, (record { there = b.1.there; is = b.1.is ∙ lo }, s.stands));
+        goes_on = ap₂ f (sym s.result) (let z : at + length (vertex_of s.list) ≡ k.0.1 = omega arith in z) ∙ k.2;
+      }

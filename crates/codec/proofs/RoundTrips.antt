@@ -1,5 +1,5 @@
 -- The round trips of books and acts, and what the reader of acts says by them.
-use Rattle.std.proofs.Common.{◌≡◌, ◌-◌, ◌<◌, ◌≤◌, [], ◌++◌, length, take, drop, Ok, sym, ap, ◌∙◌, append-nil, arith}
+use Rattle.std.proofs.Common.{◌≡◌, ◌-◌, ◌<◌, [], ◌++◌, length, take, drop, Ok, sym, ap, ◌∙◌, append-nil, arith}
 use Rattle.model.specs.State.{State}
 use Rattle.model.specs.declared.Rule.{Rule}
 use Rattle.model.specs.declared.Rule.TheVariants.{Take, Grant, Create, Remove}
@@ -11,7 +11,7 @@ use Rattle.codec.specs.Bookable.{Bookable}
 use Rattle.codec.specs.Books.{book_at}
 use Rattle.codec.specs.RoundTrips.{BooksReadBack, BooksWriteBack, ActsReadBack, ActsWriteBack}
 use Rattle.codec.specs.Writing.{book_bytes}
-use Rattle.codec.proofs.Stands.{Stands, stands_in, stands_part, stands_within}
+use Rattle.codec.proofs.Stands.{stands_in, stands_part, stands_there, stands_within}
 use Rattle.codec.proofs.ActBytes.{act_read, act_ok}
 use Rattle.codec.proofs.BookBytes.{book_read, book_ok}
 
@@ -45,12 +45,6 @@ acts_read_back n a r before rest = act_read (before ++ (act_bytes a ++ rest)) n 
 pub acts_write_back : ActsWriteBack
 acts_write_back bs bytes n at a next e =
     let h = act_ok bs bytes n at (a, next) e in
-    let l = stands_within bs (act_bytes a) at h.stands (act_there a h.stands) in
+    let l = stands_within bs (act_bytes a) at h.stands (stands_there bs (act_bytes a) at h.stands (some_bytes a)) in
     let z = h.ends in
     record { range = h.range; ends = z; within = omega arith; bytes = ap (λ m. take m (drop at bs)) (let y : next - at ≡ length (act_bytes a) = omega arith in y) ∙ stands_part bs (act_bytes a) at h.stands }
-  where
-    act_there : (b : Rule) → Stands bs at (act_bytes b) → at ≤ length bs
-    act_there (Take t) k = let l = k.0.there in omega arith
-    act_there (Grant t) k = let l = k.0.there in omega arith
-    act_there (Create t) k = let l = k.0.there in omega arith
-    act_there (Remove t) k = let l = k.0.there in omega arith

@@ -1,5 +1,5 @@
 -- Bytes that stand at an offset of the input.
-use Rattle.std.proofs.Common.{◌≡◌, ℕ, suc, ◌+◌, ◌≤◌, List, [], ◌∷◌, ◌++◌, length, take, drop, sym, refl, ap, ◌∙◌, subst, ap₂, inl, inr, arith}
+use Rattle.std.proofs.Common.{◌≡◌, ℕ, suc, ◌+◌, ◌<◌, ◌≤◌, List, [], ◌∷◌, ◌++◌, length, take, drop, sym, refl, ap, ◌∙◌, subst, ap₂, inl, inr, arith}
 use Rattle.std.proofs.lemmas.List.{drop_more, drop_all, drop_at, take_at, take_all, take-append-drop}
 use Rattle.std.proofs.lemmas.Bool.{cases_lt}
 use Rattle.codec.proofs.Inverted.{Byte}
@@ -41,6 +41,10 @@ stands_right bs (b ∷ xs) ys at h = subst (λ m. Stands bs m ys) (omega arith) 
 pub stands_within : (bs xs : List ℕ) (at : ℕ) → Stands bs at xs → at ≤ length bs → at + length xs ≤ length bs
 stands_within bs [] at h l = omega arith
 stands_within bs (b ∷ xs) at h l = let k = stands_within bs xs (at + 1) h.1 (let t = h.0.there in omega arith) in omega arith
+
+pub stands_there : (bs xs : List ℕ) (at : ℕ) → Stands bs at xs → 0 < length xs → at ≤ length bs
+stands_there bs [] at h l = absurd (omega arith)
+stands_there bs (b ∷ xs) at h l = let t = h.0.there in omega arith
 
 -- What fills the input is the input.
 pub stands_whole : (bs xs : List ℕ) → Stands bs 0 xs → length bs ≡ length xs → bs ≡ xs

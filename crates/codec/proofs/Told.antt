@@ -21,7 +21,7 @@ use Rattle.codec.proofs.Stands.{Stands, stands_append, stands_in, stands_at_fron
 use Rattle.codec.proofs.ActBytes.{act_read, act_ok}
 use Rattle.codec.proofs.Performed.{performed_not, performed_full, performed_err}
 use Rattle.codec.proofs.RoundTrips.{some_bytes}
-use Rattle.codec.proofs.Broken.{Begun, begun_fails, begun_same, Broken, broken}
+use Rattle.codec.proofs.Played.{Begun, begun_fails, begun_same, Broken, broken}
 use Rattle.codec.proofs.Looked.{Same, Later, Past, behind, Both}
 use Rattle.codec.proofs.Alike.{act_both, book_both}
 

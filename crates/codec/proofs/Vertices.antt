@@ -3,6 +3,7 @@ use Rattle.std.proofs.Common.{◌≡◌, ℕ, zero, suc, ◌+◌, ◌*◌, ◌/�
 use mathlib.Core.Path.{fun_ext}
 use Rattle.std.proofs.lemmas.List.{length-append}
 use Rattle.std.proofs.lemmas.Bool.{cases_eq}
+use Rattle.std.proofs.lemmas.Bool.Decides.{nat_tests}
 use Rattle.model.specs.State.{State}
 use Rattle.model.proofs.Tests.{same, both, parts}
 use Rattle.codec.specs.Bookable.{Bookable}
@@ -10,10 +11,8 @@ use Rattle.codec.specs.Books.{vertices_at}
 use Rattle.codec.specs.Writing.{vertex_bytes, vertices_bytes}
 use Rattle.codec.proofs.Inverted.{ok_same}
 use Rattle.codec.proofs.Stands.{Stands, stands_append, stands_left, stands_right}
-use Rattle.codec.proofs.Codes.{Listed, member, members, member_passes, passing_member, members_listed, listed_members, listed_bounds}
-use Rattle.codec.proofs.Gave.{gave, gave_size, gave_subject, gave_keeps, gave_gives, gave_from}
-use Rattle.codec.proofs.HeldBytes.{codes, holds_code, vertex_codes}
-use Rattle.codec.proofs.Vertex.{vertex_of, vertex_read, vertex_ok}
+use Rattle.codec.proofs.Codes.{Listed, member, members, member_passes, passing_member, members_listed, listed_members, listed_bounds, gave, gave_size, gave_subject, gave_keeps, gave_gives, gave_from, codes, holds_code, vertex_codes}
+use Rattle.codec.proofs.Rights.{vertex_of, vertex_read, vertex_ok}
 
 pub state_same : (s t : State) → s.size ≡ t.size → s.subject ≡ t.subject → ((x r q : ℕ) → s.has x r q ≡ t.has x r q) → s ≡ t
 state_same s t a b c = λ i. record { size = a i; subject = b i; has = λ x r q. c x r q i }
@@ -52,13 +51,8 @@ module _ (s : State) (b : Bookable s) where
       there : T ((gave p (members (holds_code s p) 0 2048) (until s p)).has x r q) → T (ltb x (p + 1) && s.has x r q)
       there t =
           elim (gave_from p (members (holds_code s p) 0 2048) (until s p) x r q t) [
-            | inl h ↦
-                let e = h.who in
-                let k = member_passes (holds_code s p) 0 2048 h.code h.listed in
-                both _ _ (lt→ltb x (p + 1) (omega arith)) (subst (λ y. T (s.has y r q)) (sym e) (subst (λ y. T (s.has p y q)) (sym h.what) (subst (λ y. T (s.has p (h.code / 256) y)) (sym h.whom) k)))
-            | inr h ↦
-                let k = parts (ltb x p) (s.has x r q) h in
-                both _ _ (lt→ltb x (p + 1) (let l = ltb→lt x p k.0 in omega arith)) k.1
+            | inl h ↦ (let e = h.who in let a = h.what in let d = h.whom in let k = member_passes (holds_code s p) 0 2048 h.code h.listed in grind (arith, nat_tests))
+            | inr h ↦ grind (arith, nat_tests)
           ]
 
       itself : x ≡ p → T (s.has x r q) → T ((gave p (members (holds_code s p) 0 2048) (until s p)).has x r q)

@@ -1,15 +1,18 @@
 -- What one more right, row or vertex adds to the bytes of a book.
-use Rattle.std.proofs.Common.{◌≡◌, ℕ, zero, suc, ◌+◌, ◌≤◌, Bool, false, cond, List, [], ◌∷◌, ◌++◌, take, drop, Ok, Err, Result, sym, ap, ◌∙◌, ap₂, inl, inr, add-one, arith}
+use Rattle.std.proofs.Common.{◌≡◌, ℕ, zero, suc, ◌+◌, ◌≤◌, Bool, true, false, cond, List, [], ◌∷◌, ◌++◌, take, drop, Ok, Err, Result, sym, refl, ap, ◌∙◌, ap₂, inl, inr, add-one, arith}
 use mathlib.Core.Path.{fun_ext}
 use Rattle.std.proofs.lemmas.List.{take_all}
 use Rattle.std.proofs.lemmas.Bool.{cases_eq, cond-false, le-leb}
+use Rattle.std.specs.List.{flat_map}
+use Rattle.std.proofs.lemmas.List.Concat.{flat_map-append}
 use Rattle.bits.specs.Sets.{set_bytes}
+use Rattle.bits.proofs.Chain.{members_below}
 use Rattle.bits.proofs.Bytes.{lower_half, length_set_bytes}
 use Rattle.codec.specs.declared.book.Layout.TheVariants.{Narrow, Wide}
 use Rattle.codec.specs.Books.{layout_kind, set_width}
 use Rattle.model.specs.Bounded.{count_below}
 use Rattle.model.specs.State.{State}
-use Rattle.codec.specs.Writing.{count_held, head_bytes, Appended}
+use Rattle.codec.specs.Writing.{row_bytes, count_held, head_bytes, Appended}
 
 -- Nothing is counted where nothing passes.
 pub count_past : (n m : ℕ) (f : ℕ → Bool) → ((k : ℕ) → n ≤ k → f k ≡ false) → n ≤ m → count_below m f ≡ count_below n f
@@ -25,6 +28,16 @@ pub count_more : (s : State) (p r c m : ℕ) (f : ℕ → Bool) → ((k : ℕ) �
 unfolding count_held
 count_more s p r c m f e past h i =
     ap₂ (λ a b. a + b) i (ap (count_below m) (fun_ext e) ∙ count_past s.size m (s.has p r) past h) ∙ ap (count_held s p) (sym (add-one r))
+
+-- A row, member by member.
+pub row_members : (r n : ℕ) (f : ℕ → Bool) → flat_map (λ q. r ∷ q ∷ []) (members_below n f) ≡ row_bytes r f n
+unfolding members_below row_bytes
+row_members r zero f = refl
+row_members r (suc n) f = flat_map-append (λ q. r ∷ q ∷ []) (members_below n f) (cond (f n) (n ∷ []) []) ∙ ap₂ (λ a b. a ++ b) (row_members r n f) (one (f n))
+  where
+    one : (b : Bool) → flat_map (λ q. r ∷ q ∷ []) (cond b (n ∷ []) []) ≡ cond b (r ∷ n ∷ []) []
+    one true = refl
+    one false = refl
 
 -- The two layouts of the head, from the 32 bytes of a set.
 module _ (s : State) (n : ℕ) (e : n ≡ s.size) where

@@ -19,6 +19,7 @@ struct Transfer {
     to: Vertex,
 }
 
+// The two differ in the names of the fields alone, which are the point of the two structs.
 impl Transfer {
     fn take(self) -> Rule
         ensures { result ≡ taken self }

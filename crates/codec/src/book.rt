@@ -11,9 +11,9 @@ use crate::kind::Kind;
 use crate::reader::Reader;
 use bits::VertexSet;
 use graph::Graph;
-use model::{RIGHTS, Right, Vertex};
+use model::{NARROW, RIGHTS, Right, Vertex};
 
-// The two layouts of a book: for up to 128 vertices, and for 129 to 255.
+// The two layouts of a book: for up to NARROW vertices, and for more.
 #[derive(Clone, Copy, PartialEq, Eq, Debug)]
 pub enum Layout {
     Narrow,
@@ -32,7 +32,7 @@ impl Layout {
     }
 }
 
-// A right to a vertex, as a book lists them: in rising order, first by the right.
+// A right to a vertex, as a book lists them: in rising order, first by the right. It is the format's own: what plans say of such pairs is in their crate.
 #[derive(Clone, Copy)]
 struct Held {
     right: Right,
@@ -73,8 +73,8 @@ impl<'a> Reader<'a> {
         let at = self.at();
         let size = self.byte()?;
         let fits = match layout {
-            Layout::Narrow => (1..=128).contains(&size),
-            Layout::Wide => 129 <= size,
+            Layout::Narrow => (1..=NARROW).contains(&size),
+            Layout::Wide => size > NARROW,
         };
         if fits {
             Ok(size)

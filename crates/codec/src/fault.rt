@@ -51,6 +51,7 @@ impl Fault {
     }
 }
 
+// By hand and not by a library's derive, so that who trusts the checker need read no more than this.
 impl fmt::Display for Fault {
     fn fmt<W: fmt::Write>(&self, f: &mut fmt::Formatter<W>) -> fmt::Result {
         let place = self.place();

@@ -31,6 +31,7 @@ pub fn replay(heap: Global, bytes: &[u8]) -> Result<Vec<u8>, InputError>
 fn apply_acts(acts: &mut Reader, graph: &mut Graph) -> Result<(), Fault>
     ensures { filled result (state graph.new) ≡ acts_at (length acts.old.bytes.now) acts.old.bytes.now acts.old.at 0 (state graph.old) }
 {
+    // Counted by hand: a `for` over the numbers would have to be left by a test of the input in its body, which is no plainer.
     let mut count = 0;
     while !acts.is_done() {
         apply_act(acts, count, graph)?;
@@ -45,9 +46,8 @@ pub fn apply_act<B: Apply>(acts: &mut Reader, number: usize, book: &mut B) -> Re
     ensures bound { IfOk result (λ _. acts.old.at < acts.new.at) }
 {
     let rule = acts.act(book.size())?;
-    match book.apply(rule) {
-        Ok(()) => Ok(()),
-        Err(Refusal::NotApplicable) => Err(Fault::NotApplicable { act: number }),
-        Err(Refusal::Full) => Err(Fault::Full { act: number }),
-    }
+    book.apply(rule).map_err(|refusal| match refusal {
+        Refusal::NotApplicable => Fault::NotApplicable { act: number },
+        Refusal::Full => Fault::Full { act: number },
+    })
 }

@@ -17,7 +17,7 @@ pub use error::InputError;
 pub use fault::Fault;
 pub use history::{apply_act, replay};
 pub use kind::{Kind, UnknownKind};
-pub use model::{Question, RIGHTS};
+pub use model::{NARROW, Question, RIGHTS};
 pub use question::read_narrow_book;
 pub use reader::Reader;
 pub use theorems::formats_agree;

@@ -12,7 +12,7 @@ use crate::reader::Reader;
 use graph::Graph;
 use model::{Question, RIGHTS};
 
-// A book about which questions may be asked, one of up to 128 vertices, and the rest of the input.
+// A book about which questions may be asked, one of up to NARROW vertices, and the rest of the input.
 pub fn read_narrow_book(bytes: &[u8]) -> Result<(Graph, Reader<'_>), Fault>
     ensures value { read_state result ≡ narrow_book_at bytes.now }
     ensures bound { IfOk result (λ p. (state p.0).size ≤ 128) }

@@ -1,5 +1,6 @@
 // Reading on through an input.
-ghost use Rattle.std.specs.Prelude.{◌≡◌, ◌≤◌, ◌&&◌, length, drop, ◌==◌, nat_le, nat_lt, slice_index};
+ghost use Rattle.std.specs.Prelude.{◌≡◌, ◌<◌, ◌≤◌, ◌&&◌, length, drop, MatchResult, ◌==◌, nat_le, nat_lt, slice_index};
+ghost use Rattle.codec.specs.declared.fault.Fault.TheVariants.{Missing};
 ghost use Rattle.codec.specs.Kinds.{kind_number};
 
 use crate::fault::Fault;
@@ -22,6 +23,19 @@ impl<'a> Reader<'a> {
         ensures start { result.at ≡ 0 }
     {
         Reader { bytes, at: 0 }
+    }
+
+    // Reading on from an offset, which may be past the end: then there is nothing to read.
+    pub fn starting(bytes: &'a [u8], at: usize) -> Result<Reader<'a>, Fault>
+        ensures { MatchResult result
+            (λ r. (r.bytes.now ≡ bytes.now) × (r.at ≡ at))
+            (λ fault. (length bytes.now < at) × (fault ≡ Missing (length bytes.now))) }
+    {
+        let length = bytes.len();
+        if at > length {
+            return Err(Fault::Missing { length });
+        }
+        Ok(Reader { bytes, at })
     }
 
     pub fn at(&self) -> usize

@@ -8,7 +8,7 @@ ghost use Rattle.graph.specs.Graphs.{state};
 use crate::kind::Kind;
 use bits::VertexSet;
 use graph::Graph;
-use model::{RIGHTS, Right, Vertex};
+use model::{NARROW, RIGHTS, Right, Vertex};
 use std::alloc::{AllocError, Global};
 
 // The bytes of a book that stands for the graph's state.
@@ -31,7 +31,7 @@ fn write_head(graph: &Graph, out: &mut Vec<u8>) -> Result<(), AllocError>
 {
     let size = graph.size();
     let subjects = graph.subjects().to_be_bytes();
-    if size <= 128 {
+    if size <= NARROW {
         write_both(&[u8::from(Kind::Book), size], &subjects[16..32], out)
     } else {
         write_both(&[u8::from(Kind::WideBook), size], &subjects, out)
@@ -56,7 +56,7 @@ fn write_vertex(graph: &Graph, p: Vertex, out: &mut Vec<u8>) -> Result<(), Alloc
     ensures { Appended result out.old.items out.new.items (vertex_bytes (state graph.now) p) }
 {
     let count = held_count(graph, p);
-    write(&[(count / 256) as u8, (count % 256) as u8], out)?;
+    write(&(count as u16).to_be_bytes(), out)?;
     write_held(graph, p, out)
 }
 
@@ -65,6 +65,7 @@ fn held_count(graph: &Graph, p: Vertex) -> usize
     ensures value { result ≡ count_held (state graph.now) p 8 }
     ensures bound { result ≤ 2048 }
 {
+    // Added up by hand: with `map` and `sum` the proof didn't close.
     let mut count = 0;
     for r in 0..RIGHTS {
         count += graph.targets(p, r).count();
@@ -77,20 +78,17 @@ fn write_held(graph: &Graph, p: Vertex, out: &mut Vec<u8>) -> Result<(), AllocEr
     ensures { Appended result out.old.items out.new.items (held_bytes (state graph.now) p 8) }
 {
     for r in 0..RIGHTS {
-        write_row(&graph.targets(p, r), r, graph.size(), out)?;
+        write_row(&graph.targets(p, r), r, out)?;
     }
     Ok(())
 }
 
-// One right to each of these vertices that is below `size`.
-#[tactic(auto, unfolding(crate::specs::Writing::row_bytes))]
-fn write_row(targets: &VertexSet, r: Right, size: u8, out: &mut Vec<u8>) -> Result<(), AllocError>
-    ensures { Appended result out.old.items out.new.items (row_bytes r (holds targets.now) size) }
+// One right to each of these vertices.
+fn write_row(targets: &VertexSet, r: Right, out: &mut Vec<u8>) -> Result<(), AllocError>
+    ensures { Appended result out.old.items out.new.items (row_bytes r (holds targets.now) 256) }
 {
-    for q in 0..size {
-        if targets.contains(q) {
-            write(&[r, q], out)?;
-        }
+    for q in targets.iter() {
+        write(&[r, q], out)?;
     }
     Ok(())
 }

@@ -70,9 +70,7 @@ pub fn read_input(rt: &HostRuntime, files: &[String]) -> anyhow::Result<Vec<u8>>
         rt.stdin().read_to_end(&mut input)?;
     }
     for file in files {
-        if let Err(e) = read_file(rt, file, &mut input) {
-            return Err(anyhow!("{file} can't be read: {e}"));
-        }
+        read_file(rt, file, &mut input).map_err(|e| anyhow!("{file} can't be read: {e}"))?;
     }
     Ok(input)
 }
@@ -85,10 +83,7 @@ fn read_file(rt: &HostRuntime, file: &String, input: &mut Vec<u8>) -> io::Result
 
 // Writes a file that the command line names.
 pub fn write_output(rt: &HostRuntime, file: &String, bytes: &[u8]) -> anyhow::Result<()> {
-    if let Err(e) = fs::write(rt, file.as_str(), bytes) {
-        return Err(anyhow!("{file} can't be written: {e}"));
-    }
-    Ok(())
+    fs::write(rt, file.as_str(), bytes).map_err(|e| anyhow!("{file} can't be written: {e}"))
 }
 
 // Tells a fault: a line with its number and its place, and then in words, as the error that ends the program.

@@ -78,6 +78,7 @@ where
     }
 }
 
+// What is printed differs, and so each of the three prints its own; that a fault is told instead is one line in each.
 fn print_lines(rt: &HostRuntime, answered: Result<Vec<u8>, InputError>) -> anyhow::Result<()> {
     match answered {
         Ok(lines) => Ok(rt.stdout().write_all(&lines)?),
@@ -113,6 +114,7 @@ fn print_table(rt: &HostRuntime, files: &[String], output: &Option<String>) -> a
     }
 }
 
+// Also in `book`: console, which both stand on, knows nothing of what is wrong with an input.
 fn tell(rt: &HostRuntime, error: InputError) -> anyhow::Result<()> {
     match error {
         InputError::Input(fault) => console::tell(rt, fault.number(), fault.place(), fault),

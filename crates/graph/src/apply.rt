@@ -9,7 +9,7 @@ use crate::graph::Graph;
 use crate::refusal::Refusal;
 use model::Rule;
 
-// A graph as it is by now, alone or with what is kept of it.
+// A graph that changes: a `Graph` alone, or one with what was worked out of it.
 pub trait Apply {
     ghost stands_for: { Self → State };
 

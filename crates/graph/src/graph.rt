@@ -7,17 +7,15 @@ ghost use Rattle.std.specs.Prelude.{◌<◌};
 ghost use Rattle.graph.specs.Table.{EachWhole, SubjectsFit, RowsFit};
 
 use bits::VertexSet;
-use model::RIGHTS;
+use model::{NUMBERS, RIGHTS};
 
 // The most vertices of a graph, so that a byte numbers each and their count fits one too.
 const MOST: u8 = 255;
 
-// How many numbers a vertex can have.
-const NUMBERS: usize = 256;
-
 // A row for each right.
 const ROWS: usize = RIGHTS as usize;
 
+// A fixed table with its size beside it: rules cost no allocation, and a graph can be made where memory is short.
 #[derive(Drop)]
 pub struct Graph {
     size: u8,

@@ -18,13 +18,6 @@ pub record Answered (all left : Result (List Posed) Fault) (P : List Posed → T
   pub is : all ≡ onward left λ more. Ok (done ++ more)
   pub told : P done
 
-pub answered_none : (all left : Result (List Posed) Fault) (P : List Posed → Type 0) → left ≡ all → P [] → Answered all left P
-answered_none all left P e h = record { done = []; is = sym e ∙ same left; told = h }
-  where
-    same : (r : Result (List Posed) Fault) → r ≡ onward r λ more. Ok ([] ++ more)
-    same (Ok ps) = refl
-    same (Err f) = refl
-
 module _ {all left : Result (List Posed) Fault} {P : List Posed → Type 0} (inv : Answered all left P) where
   pub answered_more :
       (p : Posed) (next : Result (List Posed) Fault) (Q : List Posed → Type 0) → left ≡ first p next → ((done : List Posed) → P done → Q (done ++ p ∷ [])) → Answered all next Q
@@ -41,9 +34,6 @@ module _ {all left : Result (List Posed) Fault} {P : List Posed → Type 0} (inv
 
   pub answered_all : left ≡ Ok [] → all ≡ Ok inv.done
   answered_all e = inv.is ∙ (ap (λ r. onward r λ more. Ok (inv.done ++ more)) e ∙ ap (λ ps. Ok ps) (append-nil inv.done))
-
-  pub answered_broken : (f : Fault) → left ≡ Err f → all ≡ Err f
-  answered_broken f e = inv.is ∙ ap (λ r. onward r λ more. Ok (inv.done ++ more)) e
 
 -- One text more.
 pub text_more : (f : Posed → List ℕ) (text next : List ℕ) (done : List Posed) (p : Posed) → next ≡ text ++ f p → text ≡ flat_map f done → next ≡ flat_map f (done ++ p ∷ [])

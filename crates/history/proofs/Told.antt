@@ -7,20 +7,20 @@ use Rattle.std.proofs.lemmas.Bool.{eqb-true, ltb-false, leb-true}
 use Rattle.model.specs.State.{State, WellFormed}
 use Rattle.model.specs.declared.Rule.{Rule}
 use Rattle.model.proofs.Steps.{applied_well}
-use Rattle.codec.specs.declared.fault.Fault.TheVariants.{UnknownKind, OutOfRange}
 use Rattle.model.specs.declared.Question.{Question}
-use Rattle.codec.specs.Acts.{act_at, act_bytes}
+use Rattle.codec.specs.Acts.{act_bytes}
 use Rattle.codec.specs.Books.{book_at}
-use Rattle.codec.specs.Questions.{question_at, narrow_book_at}
+use Rattle.codec.specs.Questions.{narrow_book_at}
 use Rattle.codec.specs.Reading.{onward}
-use Rattle.codec.specs.Replay.{performed, performed_at}
+use Rattle.codec.specs.Replay.{performed_at}
 use Rattle.codec.specs.RoundTrips.{AreBytes}
 use Rattle.codec.specs.Writing.{book_bytes}
-use Rattle.codec.proofs.ActBytes.{act_ok, ActStood}
+use Rattle.codec.proofs.ActBytes.{ActStood}
 use Rattle.codec.proofs.BookBytes.{book_ok}
-use Rattle.codec.proofs.Inverted.{Byte, ok_same, never_ok, onward_ok, cond_ways, byte_ok, below_ok}
-use Rattle.codec.proofs.Performed.{performed_ok, DoneWell}
+use Rattle.codec.proofs.Inverted.{passed, Byte, ok_same, onward_ok, cond_ways, byte_ok, below_ok}
+use Rattle.codec.proofs.Performed.{DoneWell}
 use Rattle.codec.proofs.RoundTrips.{some_bytes}
+use Rattle.codec.proofs.Running.{done_act}
 use Rattle.codec.proofs.Stands.{Stands, stands_append, stands_within, stands_whole}
 use Rattle.answers.proofs.Within.{decided_so, shown}
 use Rattle.history.specs.Events.{Event, act, ask, question_bytes, events_bytes, Askable, Goes, questions_in}
@@ -40,27 +40,18 @@ pub record Sound (p : Posed) : Type 0 where
 module _ (bs : List ℕ) where
   pub question_ok : (s : State) (at : ℕ) (q : Question) (next : ℕ) → posed_question_at bs at s.size ≡ Ok (q, next) → QuestionStood bs s at q next
   question_ok s at q next e =
-      elim (cond_ways (leb s.size 128) _ _ _ e) [
-        | inr w ↦ never_ok (OutOfRange at) (q, next) w.1
-        | inl w ↦ known (leb-true s.size 128 w.0) w.1
-      ]
-    where
-      known : s.size ≤ 128 → question_at bs s.size at ≡ Ok (q, next) → QuestionStood bs s at q next
-      known few g =
-          let k = byte_ok bs at _ (q, next) g in
-          elim (cond_ways (eqb k.0 6) _ _ _ k.2) [
-            | inr w ↦ never_ok (UnknownKind at) (q, next) w.1
-            | inl w ↦
-                let x = below_ok bs (at + 1) s.size _ (q, next) w.1 in
-                let r = below_ok bs (at + 1 + 1) 8 _ (q, next) x.3 in
-                let y = below_ok bs (at + 1 + 1 + 1) s.size _ (q, next) r.3 in
-                subst (λ (p : Question × ℕ). QuestionStood bs s at p.0 p.1) (ok_same _ (q, next) y.3)
-                (record {
-                  askable = record { few = few; holder = x.2; right = r.2; target = y.2 };
-                  stands = (subst (Byte bs at) (eqb-true k.0 6 w.0) k.1, (x.1, (r.1, (y.1, tt))));
-                  ends = omega arith;
-                })
-          ]
+      let few = passed (leb s.size 128) _ _ (q, next) e in
+      let k = byte_ok bs at _ (q, next) few.1 in
+      let six = passed (eqb k.0 6) _ _ (q, next) k.2 in
+      let x = below_ok bs (at + 1) s.size _ (q, next) six.1 in
+      let r = below_ok bs (at + 1 + 1) 8 _ (q, next) x.3 in
+      let y = below_ok bs (at + 1 + 1 + 1) s.size _ (q, next) r.3 in
+      subst (λ (p : Question × ℕ). QuestionStood bs s at p.0 p.1) (ok_same _ (q, next) y.3)
+      (record {
+        askable = record { few = leb-true s.size 128 few.0; holder = x.2; right = r.2; target = y.2 };
+        stands = (subst (Byte bs at) (eqb-true k.0 6 six.0) k.1, (x.1, (r.1, (y.1, tt))));
+        ends = omega arith;
+      })
 
   -- What is left of the input from an offset on is a history that goes through.
   pub record Stood (at : ℕ) (s : State) (ps : List Posed) : Type 0 where
@@ -107,16 +98,6 @@ module _ (bs : List ℕ) where
       }
 
   module _ (bytes : AreBytes bs) where
-    pub done_act : (at i : ℕ) (s t : State) (next : ℕ) → performed_at bs at i s ≡ Ok (t, next) → (a : Rule) × DoneWell s a t × ActStood bs s.size at a next
-    done_act at i s t next e =
-        let q = onward_ok (act_at bs s.size at) (λ x. onward (performed s x.0 i) λ u. Ok (u, x.1)) (t, next) e in
-        let p = onward_ok (performed s q.0.0 i) (λ u. Ok (u, q.0.1)) (t, next) q.2 in
-        let z = ok_same (p.0, q.0.1) (t, next) p.2 in (
-          q.0.0,
-          subst (λ (x : State × ℕ). DoneWell s q.0.0 x.0) z (performed_ok s q.0.0 i p.0 p.1),
-          subst (λ (x : State × ℕ). ActStood bs s.size at q.0.0 x.1) z (act_ok bs bytes s.size at q.0 q.1),
-        )
-
     events_ok : (most at i : ℕ) (s : State) (ps : List Posed) → WellFormed s → s.size < 256 → at ≤ length bs → length bs ≤ at + most → posed_at most bs at i s ≡ Ok ps → Stood at s ps
     unfolding posed_at
     events_ok zero at i s ps wf few l m e = no_event at s ps (omega arith) (ok_same [] ps e)
@@ -135,7 +116,7 @@ module _ (bs : List ℕ) where
                     (one_question at s p.0.0 p.0.1 r.0 wf h (events_ok most p.0.1 i s r.0 wf few (omega arith) (omega arith) r.1))
                 | inr w ↦
                     let p = onward_ok (performed_at bs at i s) (λ t. posed_at most bs t.1 (i + 1) t.0) ps w.1 in
-                    let d = done_act at i s p.0.0 p.0.1 p.1 in
+                    let d = done_act bs bytes at i s p.0 p.1 in
                     let h = d.2 in
                     let z = h.ends in
                     let b = some_bytes d.0 in
@@ -156,10 +137,8 @@ module _ (bs : List ℕ) where
     heard ps e =
         let b = onward_ok (narrow_book_at bs) (λ x. posed_at (length bs) bs x.1 0 x.0) ps e in
         let k = byte_ok bs 0 _ b.0 b.1 in
-        elim (cond_ways (eqb k.0 1) _ _ _ k.2) [
-          | inr w ↦ never_ok (UnknownKind 0) b.0 w.1
-          | inl w ↦ whole b.0.0 b.0.1 (k.1.is ∙ eqb-true k.0 1 w.0) w.1 b.2
-        ]
+        let one = passed (eqb k.0 1) _ _ b.0 k.2 in
+        whole b.0.0 b.0.1 (k.1.is ∙ eqb-true k.0 1 one.0) one.1 b.2
       where
         whole : (s : State) (at : ℕ) → get_or bs 0 0 ≡ 1 → book_at bs ≡ Ok (s, at) → posed_at (length bs) bs at 0 s ≡ Ok ps → Heard ps
         whole s at one g f =

@@ -9,9 +9,10 @@ use Rattle.codec.specs.Questions.{narrow_book_at}
 use Rattle.codec.specs.Replay.{performed_at}
 use Rattle.codec.specs.RoundTrips.{AreBytes}
 use Rattle.codec.proofs.RoundTrips.{some_bytes}
+use Rattle.codec.proofs.Running.{done_act}
 use Rattle.history.specs.Left.{first}
 use Rattle.history.specs.Posed.{Posed, posed_question_at, posed_at, posed}
-use Rattle.history.proofs.Told.{question_ok, done_act}
+use Rattle.history.proofs.Told.{question_ok}
 
 -- It is the same how one goes on, if it is the same from all that there may be.
 onward_same : {A B : Type 0} (r : Result A Fault) (f g : A → Result B Fault) → ((a : A) → r ≡ Ok a → f a ≡ g a) → onward r f ≡ onward r g
@@ -37,7 +38,7 @@ module _ (bs : List ℕ) (bytes : AreBytes bs) where
       (onward_same (posed_question_at bs at s.size) _ _ (λ q e.
       let h = (question_ok bs s at q.0 q.1 e).ends in ap (first (record { about = s; question = q.0 })) (same_turns m n q.1 i s (omega arith) (omega arith))))
       (onward_same (performed_at bs at i s) _ _ (λ t e.
-      let d = done_act bs bytes at i s t.0 t.1 e in
+      let d = done_act bs bytes at i s t e in
       let h = d.2.ends in
       let b = some_bytes d.0 in same_turns m n t.1 (i + 1) t.0 (omega arith) (omega arith)))
 

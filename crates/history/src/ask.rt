@@ -4,9 +4,9 @@ ghost use Rattle.answers.specs.AskErrors.{IsRefusedSo};
 ghost use Rattle.history.specs.Posed.{posed};
 ghost use Rattle.history.specs.Promised.{Promised, PromisedWith};
 
-use crate::reading::{ASKED, Reading};
+use crate::reading::Reading;
 use answers::{Answers, line};
-use codec::InputError;
+use codec::{InputError, NARROW};
 use std::alloc::Global;
 use witness::{Routes, longest_answer};
 
@@ -27,11 +27,8 @@ pub fn answer_records(heap: Global, bytes: &[u8]) -> Result<Answers, InputError>
     ensures { MatchResult result (λ a. PromisedWith bytes.now a.lines.items a.records.items) (λ e. IsRefusedSo e (posed bytes.now)) }
 {
     let mut reading = Reading::of(bytes)?;
-    let mut room = vec![in heap; 0; longest_answer(ASKED)]?;
-    let mut answers = Answers {
-        lines: Vec::new(heap),
-        records: Vec::new(heap),
-    };
+    let mut room = vec![in heap; 0; longest_answer(NARROW)]?;
+    let mut answers = Answers::new(heap);
     while let Some(question) = reading.next_question()? {
         answers.add(&Routes::of(reading.book().graph()), question, &mut room)?;
     }

@@ -7,9 +7,6 @@ ghost use Rattle.codec.specs.RoundTrips.{AreBytes};
 use changing::ChangingGraph;
 use codec::Reader;
 
-// The most vertices of a book that is asked about.
-pub const ASKED: u8 = 128;
-
 #[derive(Drop)]
 pub struct Reading<'a> {
     input: Reader<'a>,

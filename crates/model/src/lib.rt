@@ -13,7 +13,15 @@ pub use theorems::{
 // The number of a vertex.
 pub type Vertex = u8;
 
+// How many numbers a vertex can have.
+pub const NUMBERS: usize = 256;
+
+// The most vertices of a narrow graph: a set of them has room in two words, a book of it has the narrow layout, and questions are asked of no other.
+pub const NARROW: u8 = 128;
+
 // The number of a right. 0 is to take, 1 is to grant; the others mean nothing to the model.
+// It is a plain number, and contracts say where it must be below RIGHTS: rules and questions may name a right that isn't there, and the model says what
+// comes of it.
 pub type Right = u8;
 
 pub const TAKE: Right = 0;

@@ -1,5 +1,5 @@
 -- Words that are 0 have nothing in them.
-use Rattle.std.proofs.Common.{◌≡◌, ℕ, ◌+◌, ◌-◌, ◌*◌, ◌/◌, ◌%◌, ◌<◌, ◌≤◌, Bool, true, false, ◌&&◌, ltb, List, ◌++◌, length, get_or, take, drop, replicate, sym, refl, ap, ◌∙◌, ap₂, inl, inr, mul-le-mul_right, arith}
+use Rattle.std.proofs.Common.{◌≡◌, ℕ, ◌+◌, ◌-◌, ◌*◌, ◌/◌, ◌%◌, ◌<◌, ◌≤◌, ◌&&◌, ltb, List, ◌++◌, length, get_or, take, drop, replicate, sym, ap, ◌∙◌, ap₂, inl, inr, mul-le-mul_right, arith}
 use borrow.Rule.Slice.PartMut.{put_mid}
 use Rattle.std.proofs.lemmas.List.{append-nil, drop_all, get_or_append_left, get_or-append_right, get_or-replicate, get_or-take, get_or_past, length-drop, length-replicate, length-take-le}
 use Rattle.std.proofs.lemmas.Bool.{cases_lt, lt-ltb, le-ltb}
@@ -8,16 +8,7 @@ use Rattle.bits.specs.Rows.{cell}
 use Rattle.bits.specs.Sets.{member}
 use Rattle.bits.proofs.Bit.{bit_zero}
 use Rattle.bits.proofs.Cell.{rows_apart}
-use Rattle.bits.proofs.Member.{member_zeros}
 use Rattle.model.specs.Bit.{bit}
-
-pub no_cells : (n w i x : ℕ) → cell (replicate n 0) w i x ≡ false
-unfolding cell
-no_cells n w i x = ap (λ b. ltb x (64 * w) && b) (member_zeros n (64 * (i * w) + x)) ∙ law (ltb x (64 * w))
-  where
-    law : (b : Bool) → (b && false) ≡ false
-    law true = refl
-    law false = refl
 
 -- The words from `from` on made 0.
 module _ (was zeros : List ℕ) (from m : ℕ) (h : from ≤ length was) (e : zeros ≡ replicate m 0) where

@@ -1,49 +1,18 @@
 -- A round of the closure, row by row: the rows below i have had it.
-use Rattle.std.proofs.Common.{◌≡◌, ℕ, ◌+◌, ◌<◌, Bool, true, false, ◌&&◌, ◌||◌, T, eqb, ltb, sym, refl, ap, ◌∙◌, ap₂, inl, inr, add-one, arith}
+use Rattle.std.proofs.Common.{◌≡◌, ℕ, ◌+◌, ◌<◌, Bool, ◌&&◌, ◌||◌, T, eqb, ltb, sym, refl, ap, ◌∙◌, ap₂, inl, inr, add-one, arith}
 use Rattle.std.proofs.lemmas.Bool.{cases_eq, ne_eqb}
 use Rattle.std.proofs.lemmas.Bool.Decides.{nat_tests}
 use Rattle.model.specs.State.{State}
 use Rattle.model.specs.Spans.{can_take}
 use Rattle.spans.specs.Paths.{rounds, step_from}
+use Rattle.spans.proofs.Resized.{within}
 
 abbrev pub Turned : (ℕ → ℕ → Bool) → ℕ → (ℕ → ℕ → Bool) → ℕ → Type 0
 Turned was k rows i = (x y : ℕ) → rows x y ≡ (was x y || (ltb x i && (was x k && was k y)))
 
-pub turned_none : (was : ℕ → ℕ → Bool) (k : ℕ) → Turned was k was 0
-turned_none was k x y = grind (arith, nat_tests)
-
-module _ (was : ℕ → ℕ → Bool) (k : ℕ) (rows : ℕ → ℕ → Bool) (i : ℕ) (inv : Turned was k rows i) where
-  pub turned_more : (next : ℕ → ℕ → Bool) → rows i k ≡ true → ((x y : ℕ) → next x y ≡ (rows x y || (eqb x i && rows k y))) → Turned was k next (i + 1)
-  turned_more next h step x y =
-      let before = inv x y in
-      let source = inv k y in
-      let here = inv i k in
-      let after = step x y in
-      elim (cases_eq x i) [
-        | inl e ↦ let same : was x k ≡ was i k = ap (λ z. was z k) e in grind (arith, nat_tests)
-        | inr d ↦ grind (arith, nat_tests)
-      ]
-
-  pub turned_skip : rows i k ≡ false → Turned was k rows (i + 1)
-  turned_skip h x y =
-      let before = inv x y in
-      let here = inv i k in
-      elim (cases_eq x i) [
-        | inl e ↦ let same : was x k ≡ was i k = ap (λ z. was z k) e in grind (arith, nat_tests)
-        | inr d ↦ grind (arith, nat_tests)
-      ]
-
 -- The rows below i have their vertex, and whom it has take to.
 abbrev pub Begun : State → (ℕ → ℕ → Bool) → (ℕ → ℕ → Bool) → ℕ → Type 0
 Begun s was rows i = (x y : ℕ) → rows x y ≡ (was x y || (ltb x i && (eqb y x || can_take s x y)))
-
-pub begun_none : (s : State) (was : ℕ → ℕ → Bool) → Begun s was was 0
-begun_none s was x y = grind (arith, nat_tests)
-
--- What row i gets is whom i has take to: nothing of it is past the row's end.
-taken : (m y : ℕ) (a b : Bool) → a ≡ b → (T b → y < m) → (ltb y m && a) ≡ b
-taken m y a true e h = let l = h tt in grind (arith, nat_tests)
-taken m y a false e h = grind (arith, nat_tests)
 
 begun_row-law : (i x y : ℕ) (was rows mid next to : Bool) →
     rows ≡ (was || (ltb x i && (eqb y x || to))) → mid ≡ (rows || (eqb x i && to)) → next ≡ ((eqb x i && eqb y i) || mid) →
@@ -61,7 +30,7 @@ begun_more s was rows mid next i m f bound same add put inv x y =
     here : (eqb x i && (ltb y m && f y)) ≡ (eqb x i && can_take s x y)
     here =
         elim (cases_eq x i) [
-          | inl e ↦ ap (λ b. eqb x i && b) (taken m y (f y) (can_take s i y) (same y) (bound y) ∙ ap (λ z. can_take s z y) (sym e))
+          | inl e ↦ ap (λ b. eqb x i && b) (ap (λ b. ltb y m && b) (same y) ∙ within y m (can_take s i y) (bound y) ∙ ap (λ z. can_take s z y) (sym e))
           | inr d ↦ ap₂ (λ a b. a && b) (ne_eqb x i d) refl ∙ sym (ap (λ a. a && can_take s x y) (ne_eqb x i d))
         ]
 

@@ -6,5 +6,6 @@ pub mod Entered
 pub mod Search
 pub mod Fronts
 pub mod Searched
+pub mod Walking
 pub mod Spanning
 pub mod Islands

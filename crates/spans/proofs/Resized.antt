@@ -9,7 +9,7 @@ use Rattle.bits.proofs.Member.{member_past}
 use Rattle.graph.specs.Graphs.{state}
 use Rattle.graph.specs.Table.{in_row}
 use Rattle.graph.specs.declared.graph.Graph.{Graph}
-use Rattle.graph.proofs.Sound.{target_below, only_subjects}
+use Rattle.graph.proofs.Sound.{target_below, only_subjects, well_formed-law}
 use Rattle.model.specs.State.{is_subject}
 use Rattle.model.proofs.Readings.{subject_vertex}
 use Rattle.spans.specs.Sets.{in_sets}
@@ -21,6 +21,9 @@ within k m false f = grind (arith, nat_tests)
 module _ (g : Graph) (w : ℕ) (h : (state g).size ≤ 64 * w) where
   pub resized_targets : (p r q : ℕ) → (ltb q (64 * w) && (state g).has p r q) ≡ (state g).has p r q
   resized_targets p r q = within q (64 * w) _ (λ t. let l = target_below g p r q t in omega arith)
+
+  pub resized_holders : (p r q : ℕ) → (ltb q (64 * w) && (state g).has q r p) ≡ (state g).has q r p
+  resized_holders p r q = within q (64 * w) _ (λ t. let l = well_formed-law g in let m = l.holder q r p t in omega arith)
 
   pub resized_subjects : (q : ℕ) → (ltb q (64 * w) && (state g).subject q) ≡ is_subject (state g) q
   resized_subjects q =
@@ -40,11 +43,7 @@ bare = record { words = [] }
 
 none_bare : (w k : ℕ) → among w bare k ≡ false
 unfolding among
-none_bare w k = ap (λ b. ltb k (64 * w) && b) (member_past [] k (omega arith)) ∙ law (ltb k (64 * w))
-  where
-    law : (b : Bool) → (b && false) ≡ false
-    law true = refl
-    law false = refl
+none_bare w k = let none = member_past [] k (omega arith) in grind (arith, nat_tests)
 
 module _ {w : ℕ} where
   pub sets_none : (s : BitSet w) → ((k : ℕ) → among w s k ≡ false) → (n y k : ℕ) → in_sets (replicate n s) y k ≡ false

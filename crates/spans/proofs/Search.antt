@@ -1,14 +1,14 @@
 -- The search for a barrier: what was found belongs to it, and what was looked at is closed under single rights.
-use Rattle.std.proofs.Common.{◌≡◌, ℕ, ◌<◌, Bool, true, false, ◌&&◌, ◌||◌, T, eqb, ◌⊎◌, sym, ap, ◌∙◌, subst, inl, inr, eqb→eq}
+use Rattle.std.proofs.Common.{◌≡◌, ℕ, ◌<◌, Bool, true, false, ◌&&◌, ◌||◌, T, eqb, ◌⊎◌, sym, subst, inl, inr, eqb→eq}
 use lib.Dec.{eqb_refl}
 use Rattle.model.specs.State.{State, WellFormed, is_subject, take_right, grant_right}
 use Rattle.model.specs.Bounded.{only}
 use Rattle.model.specs.Spans.{can_take, can_grant}
-use Rattle.model.specs.Certificates.{inner_of, out_of, into_of, certificate_of}
+use Rattle.model.specs.Certificates.{out_of, into_of, certificate_of}
 use Rattle.model.proofs.Tests.{both, parts, cases, left, right, same, eq_test}
 use Rattle.model.proofs.Readings.{subject_vertex}
 use Rattle.model.proofs.Right.{Closed}
-use Rattle.model.proofs.Least.{certificate_closed, certificate_out, certificate_into, inner_by_out}
+use Rattle.model.proofs.Least.{certificate_closed, certificate_out, certificate_into}
 use Rattle.spans.specs.Searching.{Searching}
 
 abbrev pub None : (ℕ → Bool) → Type 0
@@ -182,9 +182,6 @@ module _ (s : State) (wf : WellFormed s) (x : ℕ) where
 
     pub found_into : (p : ℕ) → into p ≡ into_of s (only x) p
     found_into p = same _ _ (inv.into_sound p) (certificate_into s wf (only x) _ closed p)
-
-    pub found_inner : (p : ℕ) → (is_subject s p && out p) ≡ inner_of s (only x) p
-    found_inner p = ap (λ b. is_subject s p && b) (found_out p) ∙ sym (inner_by_out s wf (only x) p)
 
   -- Every vertex was reached.
   pub found_all : (out into outSeen intoSeen : ℕ → Bool) → Searching s x out into outSeen intoSeen → ((k : ℕ) → k < s.size → T (out k)) → (k : ℕ) → out k ≡ out_of s (only x) k

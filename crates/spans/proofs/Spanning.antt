@@ -1,11 +1,15 @@
 -- Spans, from take paths that lead back.
-use Rattle.std.proofs.Common.{◌≡◌, ℕ, ◌+◌, Bool, true, false, ◌&&◌, ◌||◌, eqb, ltb, sym, refl, ap, ◌∙◌, ap₂, inl, inr, add-one}
+use Rattle.std.proofs.Common.{◌≡◌, ℕ, ◌<◌, Bool, true, false, not, ◌&&◌, ◌||◌, T, eqb, ltb, sym, ap, ◌∙◌, subst, ap₂, inl, inr, arith, ltb→lt}
 use mathlib.Core.Path.{fun_ext}
 use Rattle.std.proofs.lemmas.Bool.{cases_Bool, and_parts}
+use Rattle.std.proofs.lemmas.Bool.Decides.{nat_tests}
+use Rattle.bits.proofs.Walk.{Without}
 use Rattle.model.specs.State.{State, is_subject, is_vertex}
 use Rattle.model.specs.Bounded.{some_below}
 use Rattle.model.specs.Spans.{take_path, can_grant, initial_span, terminal_span}
+use Rattle.model.proofs.Tests.{parts, from_true}
 use Rattle.spans.specs.Paths.{path_from, back_from}
+use Rattle.spans.proofs.Walking.{some_without, some_nobody}
 
 module _ (s : State) where
   -- From a subject, whose number is a vertex's.
@@ -29,51 +33,38 @@ module _ (s : State) where
         | inr h ↦ ap (λ b. b && back_from s x p) h ∙ sym (ap (λ b. b && (eqb p x || some_below s.size (λ u. take_path s p u && can_grant s u x))) h)
       ]
 
+  -- Take paths lead from vertices.
+  pub path_below : (x y : ℕ) → T (path_from s x y) → x < s.size
+  unfolding path_from
+  path_below x y t = ltb→lt x s.size (parts (is_vertex s x) _ t).0
+
   pub path_vertex : (x y : ℕ) → (ltb x s.size && path_from s x y) ≡ path_from s x y
   unfolding path_from
-  path_vertex x y = twice (ltb x s.size) (take_path s x y)
-    where
-      twice : (a b : Bool) → (a && (a && b)) ≡ (a && b)
-      twice true b = refl
-      twice false b = refl
+  path_vertex x y = grind (arith, nat_tests)
 
-  -- Of those that have grant to x, the ones below u were looked at.
-  module _ (x : ℕ) where
-    abbrev pub Backing : (ℕ → Bool) → ℕ → Type 0
-    Backing set u = (q : ℕ) → set q ≡ (eqb q x || some_below u (λ v. path_from s q v && can_grant s v x))
+  -- Of those that have grant to x, all were looked at but those in `rest`.
+  abbrev pub Backing : ℕ → (ℕ → Bool) → (ℕ → Bool) → Type 0
+  Backing x set rest = ((u : ℕ) → T (rest u) → u < s.size) × ((q : ℕ) → (set q || some_below s.size (λ u. rest u && path_from s q u)) ≡ back_from s x q)
 
-    pub backing_none : (set : ℕ → Bool) (none : ℕ → Bool) → ((q : ℕ) → none q ≡ false) → ((q : ℕ) → set q ≡ (eqb q x || none q)) → Backing set 0
-    unfolding some_below
-    backing_none set none e f q = f q ∙ ap (λ b. eqb q x || b) (e q)
+  pub backing_none :
+      (x : ℕ) (set rest : ℕ → Bool) → ((q : ℕ) → set q ≡ eqb q x) → ((u : ℕ) → T (rest u) → u < s.size) → ((u : ℕ) → rest u ≡ can_grant s u x) →
+      Backing x set rest
+  unfolding back_from
+  backing_none x set rest one below same =
+      (below, λ q. ap₂ (λ a b. a || some_below s.size b) (one q) (fun_ext (λ u. let a = same u in grind (arith, nat_tests))))
 
-    pub backing_more :
-        (set next to : ℕ → Bool) (u : ℕ) → true ≡ can_grant s u x → ((q : ℕ) → to q ≡ path_from s q u) → ((q : ℕ) → next q ≡ (set q || to q)) →
-        Backing set u → Backing next (u + 1)
-    unfolding some_below
-    backing_more set next to u g e f inv q =
-        f q ∙ ap₂ (λ a b. a || b) (inv q) (e q)
-        ∙ law (eqb q x) (some_below u (λ v. path_from s q v && can_grant s v x)) (path_from s q u) (can_grant s u x) g
-        ∙ ap (λ n. eqb q x || some_below n (λ v. path_from s q v && can_grant s v x)) (sym (add-one u))
-      where
-        law : (a b p c : Bool) → true ≡ c → ((a || b) || p) ≡ (a || ((p && c) || b))
-        law true b p c h = refl
-        law false true true c h = ap (λ z. z || true) h
-        law false true false c h = refl
-        law false false true c h = h ∙ sym (or_false c)
-          where
-            or_false : (z : Bool) → (z || false) ≡ z
-            or_false true = refl
-            or_false false = refl
-        law false false false c h = refl
+  pub backing_more :
+      (x : ℕ) (set next to rest rest' : ℕ → Bool) (u : ℕ) → rest u ≡ true → Without u rest rest' → ((q : ℕ) → to q ≡ path_from s q u) →
+      ((q : ℕ) → next q ≡ (set q || to q)) → Backing x set rest → Backing x next rest'
+  backing_more x set next to rest rest' u t w e f inv = (
+    λ v h. inv.0 v (parts (not (eqb v u)) _ (subst T (w v) h)).1,
+    λ q.
+        let a = f q in
+        let b = e q in
+        let c = inv.1 q in
+        let d = some_without s.size u (path_from s q) rest rest' (λ _. inv.0 u (from_true _ t)) t w in
+        grind (arith, nat_tests),
+  )
 
-    pub backing_skip : (set : ℕ → Bool) (u : ℕ) → false ≡ can_grant s u x → Backing set u → Backing set (u + 1)
-    unfolding some_below
-    backing_skip set u g inv q =
-        inv q
-        ∙ law (eqb q x) (some_below u (λ v. path_from s q v && can_grant s v x)) (path_from s q u) (can_grant s u x) g
-        ∙ ap (λ n. eqb q x || some_below n (λ v. path_from s q v && can_grant s v x)) (sym (add-one u))
-      where
-        law : (a b p c : Bool) → false ≡ c → (a || b) ≡ (a || ((p && c) || b))
-        law true b p c h = refl
-        law false b true c h = ap (λ z. z || b) h
-        law false b false c h = refl
+  pub backing_all : (x : ℕ) (set rest : ℕ → Bool) → ((u : ℕ) → rest u ≡ false) → Backing x set rest → (q : ℕ) → set q ≡ back_from s x q
+  backing_all x set rest none inv q = let a = inv.1 q in let b = some_nobody s.size (path_from s q) rest none in grind (arith, nat_tests)

@@ -3,3 +3,4 @@ pub mod Sets
 pub mod Fronts
 pub mod Searching
 pub mod Of
+pub mod Viewed

@@ -1,4 +1,5 @@
-// The closure of take rights, in rows of W words that are lent: n rounds over n rows.
+// The closure of take rights, in rows of W words that are lent: n rounds over n rows. Rows of a lent slice are taken by their number, and what they ask
+// of its length stands at each function: that tables are slices of words is a rule of the project.
 ghost use Rattle.std.specs.Prelude.{◌≡◌, ℕ, ◌*◌, ◌<◌, ◌≤◌, false, ◌&&◌, ◌||◌, length, nat_lt};
 ghost use Rattle.bits.specs.Rows.{cell};
 ghost use Rattle.graph.specs.Graphs.{state};

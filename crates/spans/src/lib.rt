@@ -14,4 +14,4 @@ pub use closure::lead;
 pub use links::{Links, WideLinks};
 pub use paths::TakePaths;
 pub use rows::width;
-pub use turned::{SETS, holders};
+pub use turned::holders;

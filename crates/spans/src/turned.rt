@@ -1,33 +1,37 @@
-// Who has a right to each vertex: the rows of targets, turned round.
-ghost use Rattle.std.specs.Prelude.{◌≡◌, ℕ, ◌&&◌, ◌||◌, ◌==◌};
-ghost use Rattle.bits.specs.Sets.{holds};
+// Rows of sets, turned round; and who has a right to each vertex.
+ghost use Rattle.std.specs.Prelude.{◌≡◌, ℕ, ◌<◌, ◌&&◌, ◌||◌, T, ◌==◌};
+ghost use Rattle.bits.specs.Sets.{VertexSet, holds};
 ghost use Rattle.graph.specs.Graphs.{state};
 ghost use Rattle.graph.specs.Table.{in_row};
 
 use bits::VertexSet;
 use graph::Graph;
-use model::{Right, Vertex};
-
-// A set for each number that a vertex can have.
-pub const SETS: usize = 256;
+use model::{NUMBERS, Right, Vertex};
 
 // Adds x to the set of each of `targets`.
-pub fn enter(sets: &mut [VertexSet; SETS], targets: VertexSet, x: Vertex)
+fn enter(sets: &mut [VertexSet; NUMBERS], targets: VertexSet, x: Vertex)
     ensures { (y k : ℕ) → in_row sets.new y k ≡ ((k == x && holds targets y) || in_row sets.old y k) }
 {
-    let mut rest = targets;
-    while let Some(y) = rest.lowest() {
-        rest.remove(y);
-        sets[y as usize].insert(x);
+    for y in targets {
+        sets[usize::from(y)].insert(x);
     }
 }
 
-pub fn holders(graph: &Graph, r: Right) -> [VertexSet; SETS]
-    ensures { (y k : ℕ) → in_row result y k ≡ (state graph.now).has k r y }
+// Which of the first n rows have a vertex, for each vertex.
+pub fn turned<F: Fn(Vertex) -> VertexSet>(n: u8, row: F) -> [VertexSet; NUMBERS]
+    requires { F.IsAlwaysCallable row }
+    ensures below { (y x : ℕ) → T (in_row result y x) → x < n }
+    ensures rows { (x : ℕ) → x < n → (set : VertexSet) × F.post row x set × ((y : ℕ) → in_row result y x ≡ holds set y) }
 {
-    let mut sets = [VertexSet::empty(); SETS];
-    for x in 0..graph.size() {
-        enter(&mut sets, graph.targets(x, r), x);
+    let mut sets = [VertexSet::empty(); NUMBERS];
+    for x in 0..n {
+        enter(&mut sets, row(x), x);
     }
     sets
+}
+
+pub fn holders(graph: &Graph, r: Right) -> [VertexSet; NUMBERS]
+    ensures { (y k : ℕ) → in_row result y k ≡ (state graph.now).has k r y }
+{
+    turned(graph.size(), |x| graph.targets(x, r))
 }

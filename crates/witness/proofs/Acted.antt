@@ -1,10 +1,10 @@
 -- One more act of a plan: done and written, or halted.
-use Rattle.std.proofs.Common.{◌≡◌, ℕ, ◌+◌, ◌-◌, ◌<◌, ◌≤◌, Bool, true, false, cond, T, Ok, Err, List, [], ◌∷◌, ◌++◌, length, take, drop, sym, ap, ◌∙◌, subst, ap₂, append_assoc, append-nil, arith, length-append, length-drop}
+use Rattle.std.proofs.Common.{◌≡◌, ℕ, ◌+◌, ◌-◌, ◌<◌, ◌≤◌, T, Ok, Err, List, [], ◌∷◌, ◌++◌, length, take, drop, sym, ap, ◌∙◌, subst, ap₂, append_assoc, append-nil, arith, length-append, length-drop}
 use borrow.Rule.Slice.PartMut.{put_mid}
 use Rattle.std.proofs.lemmas.List.{take_at, drop_at, drop-drop, take_all, drop_all, length-take-le}
 use Rattle.model.specs.State.{State}
 use Rattle.model.specs.Rules.{applied}
-use Rattle.model.specs.Exact.{Work, doing, taking, taking_unless_held}
+use Rattle.model.specs.Exact.{Work, doing}
 use Rattle.model.specs.declared.Rule.{Rule}
 use Rattle.std.specs.Result.{is_ok}
 use Rattle.graph.specs.Graphs.{state, answer}
@@ -66,23 +66,9 @@ module _ (b : State) (w : Work) (plan : Plan) (was out : List ℕ) (a : Rule) (a
             ∙ ap₂ (λ x y. x ++ y) (sym (acts_more w.rules a)) (drop-drop n plan.used was ∙ ap (λ m. drop m was) (sym u));
       }
 
-  pub no_end : length out < plan.used → Halted b (length was) (doing a w)
-  no_end h = absurd (omega (arith, whole b w plan was out at))
-
   pub no_space : (k : ℕ) → k ≡ length out - plan.used → length (take k (drop plan.used out)) < length (act_bytes a) → Halted b (length was) (doing a w)
   no_space k l h t room =
       let free = length-take-le k (drop plan.used out) (let d = length-drop plan.used out in omega arith) in omega (arith, more_bytes, whole b w plan was out at)
 
   pub refused : (r : Refusal) → Err r ≡ answer (state plan.graph) a → Halted b (length was) (doing a w)
   refused r e t room = subst T (ap (λ s. is_ok (answer s a)) (sym (at.here ∙ at.reached)) ∙ ap is_ok (sym e)) (performed_last b w.rules a t)
-
--- A take that brings nothing new is left out.
-module _ (b : State) (w : Work) (plan : Plan) (was out : List ℕ) (at : At b w plan was out) (p y r z : ℕ) where
-  held_is : (a : Bool) → a ≡ (state plan.graph).has p r z → a ≡ w.state.has p r z
-  held_is a h = h ∙ ap (λ (s : State). s.has p r z) at.here
-
-  pub held : true ≡ (state plan.graph).has p r z → taking_unless_held p y r z w ≡ w
-  held h = ap (λ c. cond c w (doing (taking p y r z) w)) (sym (held_is true h))
-
-  pub not_held : false ≡ (state plan.graph).has p r z → taking_unless_held p y r z w ≡ doing (taking p y r z) w
-  not_held h = ap (λ c. cond c w (doing (taking p y r z) w)) (sym (held_is false h))

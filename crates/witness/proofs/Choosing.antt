@@ -7,15 +7,14 @@ use Rattle.model.specs.Bounded.{some_below, only}
 use Rattle.model.specs.Spans.{take_path, bridge, can_grant, connected, initial_span, terminal_span, Grants, itself, through, InitialSpan}
 use Rattle.model.specs.Certificates.{inner_of, out_of}
 use Rattle.model.specs.Sharing.{can_get}
-use Rattle.model.specs.Exact.{meeting, near_end, reaching, holder_for, last_for, first_for, lowest}
-use Rattle.model.proofs.Tests.{both, parts, same, some_both, both_from, some_below-law, some_from}
-use Rattle.model.proofs.Stars.{along}
+use Rattle.model.specs.Exact.{meeting, near_end, reaching, holder_for, last_for, lowest}
+use Rattle.model.proofs.ExactChoices.{lowest_same}
+use Rattle.model.proofs.Tests.{parts, same, some_both, both_from, some_below-law, some_from}
 use Rattle.model.proofs.Least.{get_by_out}
-use Rattle.model.proofs.Readings.{subject_vertex, initial_span-to, connected_to, can_get-to, bridge_to, bridge_from}
-use Rattle.model.proofs.Symmetry.{connected_both_ways, turn_bridge}
+use Rattle.model.proofs.Readings.{subject_vertex, initial_span-to, can_get-to, bridge_to, bridge_from}
+use Rattle.model.proofs.Symmetry.{turn_bridge}
 use Rattle.spans.specs.Paths.{path_from}
 use Rattle.witness.specs.Beside.{beside_some}
-use Rattle.witness.proofs.Lowest.{lowest_same}
 use Rattle.witness.proofs.Vertices.{path_below}
 
 or_comm : (a b : Bool) → (a || b) ≡ (b || a)
@@ -126,17 +125,3 @@ module _ (s : State) (wf : WellFormed s) where
       law : (a b c : Bool) → ((a && b) && (a && c)) ≡ ((a && b) && c)
       law true b c = refl
       law false b c = refl
-
-  pub first_is : (x q : ℕ) → lowest s.size (λ p. initial_span s p x && (is_subject s q && connected s q p)) ≡ first_for s x q
-  first_is x q = lowest_same s.size _ _ (λ p _. same _ _ (to p) (from p))
-    where
-      to : (p : ℕ) → T (initial_span s p x && (is_subject s q && connected s q p)) → T (initial_span s p x && connected s p q)
-      to p t =
-          let a = parts (initial_span s p x) _ t in
-          both (initial_span s p x) _ a.0 (subst T (connected_both_ways s wf q p) (parts (is_subject s q) _ a.1).1)
-
-      from : (p : ℕ) → T (initial_span s p x && connected s p q) → T (initial_span s p x && (is_subject s q && connected s q p))
-      from p t =
-          let a = parts (initial_span s p x) _ t in
-          let acts : T (is_subject s q) = along (λ z. T (is_subject s z)) (λ _ _ b _. b.other) (connected_to s p q a.1) (initial_span-to s p x a.0).acts in
-          both (initial_span s p x) _ a.0 (both (is_subject s q) _ acts (subst T (connected_both_ways s wf p q) a.1))

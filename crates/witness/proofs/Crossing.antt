@@ -1,6 +1,6 @@
 -- Each way over a bridge, and a row of them, goes on from where it begins.
 use Rattle.std.proofs.Common.{◌≡◌, ℕ, true, false, cond, eqb, List, [], ◌∷◌, length, sym, ap, ◌∙◌, subst, ap₂}
-use Rattle.std.proofs.lemmas.Bool.{eq-eqb, ne_eqb, cond-true, cond-false}
+use Rattle.std.proofs.lemmas.Bool.{cond-true, cond-false}
 use Rattle.model.specs.State.{State, grant_right}
 use Rattle.model.specs.Spans.{take_path, can_grant}
 use Rattle.model.specs.Exact.{Work, doing, granting, creating, taking_to, taking_unless_held, shortest_path, fetched, left, passed, asked, near_end, far_end, over_bridge, over_row, last_holder, handed_to}
@@ -88,13 +88,3 @@ module _ (s : State) (p q r y : ℕ) (w : Work) where
 
       pub over_asked : false ≡ can_grant s u v → over_bridge s p q r y w ≡ asked s p q r y u v w.state.size w
       over_asked g = met ∙ sym (ap (λ c. cond c (passed s p q r y u v w) (asked s p q r y u v w.state.size w)) g)
-
--- Handed on by the last, unless it is x.
-module _ (s : State) (p x r y : ℕ) (w : Work) where
-  pub handed_not : p ≡ x → handed_to s p x r y w ≡ w
-  handed_not e = ap (λ c. cond c w (doing (granting p x r y) (taking_to s p (last_holder s p x) grant_right x w))) (eq-eqb p x e)
-
-  pub handed_on : (u : ℕ) → u ≡ last_holder s p x → (p ≡ x → ⊥) → handed_to s p x r y w ≡ doing (granting p x r y) (taking_to s p u grant_right x w)
-  handed_on u e d =
-      ap (λ c. cond c w (doing (granting p x r y) (taking_to s p (last_holder s p x) grant_right x w))) (ne_eqb p x d)
-      ∙ ap (λ m. doing (granting p x r y) (taking_to s p m grant_right x w)) (sym e)

@@ -115,10 +115,6 @@ pub given_up : (b : State) (rules : List Rule) (r : Result ℕ Halt) (was out : 
 given_up b rules (Err _) was out failed h = h
 given_up b rules (Ok _) was out failed h = let none : ⊥ = cc in absurd none
 
-pub head_fits : (r : Result ℕ Halt) (n : ℕ) (was out : List ℕ) → 5 ≤ length was → Wrote r (head_bytes n) was out → IsOk r
-head_fits (Ok k) n was out l w = refl
-head_fits (Err _) n was out l w = absurd (omega arith)
-
 pub plan_written :
     (b : State) (q : Question) (n : ℕ) (was out : List ℕ) → T (can_share b q.holder q.right q.target) → length out ≡ length was → Answered b (witness_of b q) (Ok n) was out → Written b q n was out
 plan_written b q n was out shared e a =

@@ -13,9 +13,6 @@ pub record Gathered (set : ℕ → Bool) (of : ℕ → ℕ → Bool) (all rest :
   pub part : (u : ℕ) → T (rest u) → T (set u)
 
 module _ (set : ℕ → Bool) (of : ℕ → ℕ → Bool) where
-  pub gathered_none : (all : ℕ → Bool) → ((k : ℕ) → all k ≡ false) → Gathered set of all set
-  gathered_none all none = record { sound = λ k t. absurd (subst T (none k) t); whole = λ u k o n. absurd (n o); part = λ u o. o }
-
   pub gathered_more :
       (all rest all' rest' more : ℕ → Bool) (v : ℕ) → v < 256 → T (rest v) → Without v rest rest' → ((k : ℕ) → more k ≡ of v k) →
       ((k : ℕ) → all' k ≡ (all k || more k)) → Gathered set of all rest → Gathered set of all' rest'

@@ -1,5 +1,5 @@
 -- A plan goes on: one more act, and what can't be reached any more.
-use Rattle.std.proofs.Common.{◌≡◌, ℕ, T, Ok, Err, Result, List, [], ◌∷◌, ◌++◌, length, drop, sym, refl, ap, ◌∙◌, subst, append_assoc, append-nil, arith, length-append}
+use Rattle.std.proofs.Common.{◌≡◌, ℕ, T, Ok, Err, Result, List, [], ◌∷◌, ◌++◌, length, sym, refl, ap, ◌∙◌, subst, append_assoc, append-nil, arith, length-append}
 use Rattle.std.specs.Result.{IsErr}
 use Rattle.model.specs.State.{State}
 use Rattle.model.specs.Rules.{applied}
@@ -47,20 +47,6 @@ pub halted_on : (b : State) (room : ℕ) (v w : Work) → Grows v w → Halted b
 halted_on b room v w g h t l =
     h (performed_front b v.rules g.more (subst (λ rs. T (performable b rs)) g.behind t))
     (let e = ap (λ rs. length (acts_bytes rs)) g.behind ∙ ap length (acts_append v.rules g.more) ∙ length-append (acts_bytes v.rules) (acts_bytes g.more) in omega arith)
-
--- What stands in the room of its searches is nothing to a plan.
-pub relaid : (b : State) (w : Work) (plan : Plan) (was out : List ℕ) → At b w plan was out → (next : Plan) →
-    next.routes ≡ plan.routes → next.graph ≡ plan.graph → next.used ≡ plan.used → next.acts ≡ plan.acts → At b w next was out
-relaid b w plan was out at next r g u a =
-    record {
-      about = ap (λ z. routed z.now) r ∙ at.about;
-      here = ap state g ∙ at.here;
-      reached = at.reached;
-      performed = at.performed;
-      bytes = u ∙ at.bytes;
-      count = a ∙ at.count;
-      written = at.written ∙ ap (λ n. acts_bytes w.rules ++ drop n was) (sym u);
-    }
 
 -- A step that ended in an error.
 pub stopped : (b : State) (w : Work) (r : Result (Unit {0}) Halt) (plan : Plan) (was out : List ℕ) → IsErr r → Halted b (length was) w → Goes b w r plan was out

@@ -1,4 +1,3 @@
-pub mod Lowest
 pub mod Tabled
 pub mod Layers
 pub mod Walked

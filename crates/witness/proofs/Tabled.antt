@@ -5,7 +5,7 @@ use Rattle.std.specs.Array.{IsFromFnResult, IsFromFnResultFrom}
 use denote.Param.Members.{Mut, Called}
 use Rattle.bits.specs.Sets.{VertexSet}
 use Rattle.graph.specs.Table.{in_row}
-use Rattle.model.proofs.Tests.{is_false}
+use Rattle.model.proofs.Tests.{is_false, same}
 
 -- Each element is what a call answers, if calls change nothing.
 module _ {F B : Type 0} (g : Mut F (ℕ × Unit {0}) B) (P : ℕ → B → Type 0) (f : F) (one : (i : ℕ) (y : B) (f' : F) → Called g f (i, tt) y f' → P i y × (f' ≡ f)) where
@@ -28,4 +28,12 @@ tabled rows e bound past says p q =
     elim (cases_lt p 256) [
       | inl h ↦ says p h q
       | inr h ↦ past p q h ∙ sym (is_false (e p q) (λ t. let b = bound p q t in omega arith))
+    ]
+
+-- Two sets of numbers below n are one if they agree on these.
+pub agreed : (n : ℕ) (f g : ℕ → Bool) → ((k : ℕ) → T (f k) → k < n) → ((k : ℕ) → T (g k) → k < n) → ((k : ℕ) → k < n → f k ≡ g k) → (k : ℕ) → f k ≡ g k
+agreed n f g a b e k =
+    elim (cases_lt k n) [
+      | inl h ↦ e k h
+      | inr h ↦ same _ _ (λ t. let l = a k t in absurd (omega arith)) (λ t. let l = b k t in absurd (omega arith))
     ]

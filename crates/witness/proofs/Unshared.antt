@@ -11,6 +11,7 @@ use Rattle.model.specs.Spans.{TakePath, bridge, can_take, terminal_span}
 use Rattle.model.specs.Exact.{Work, carried, doing, exact_work, first_for, handed_to, holder_for, last_for, over_row, reaching, shortest_row_of, taking, taking_along, taking_to}
 use Rattle.model.specs.declared.Question.{Question}
 use Rattle.model.specs.declared.Rule.{Rule}
+use Rattle.model.proofs.ExactChoices.{lowest_none}
 use Rattle.model.proofs.Readings.{subject_vertex, take_path-to}
 use Rattle.model.proofs.Tests.{is_false, parts, some_from}
 use Rattle.witness.specs.Answers.{witness_of}
@@ -19,7 +20,6 @@ use Rattle.witness.proofs.Choosing.{get_is, holder_is}
 use Rattle.witness.proofs.Crossing.{grows_handed, grows_row}
 use Rattle.witness.proofs.Exactly.{begun, witness_is}
 use Rattle.witness.proofs.Going.{Grows, grows_not}
-use Rattle.witness.proofs.Lowest.{lowest_none}
 use Rattle.witness.proofs.Performed.{performed_applicable, performed_front}
 use Rattle.witness.proofs.Walked.{stays_put}
 
@@ -29,7 +29,7 @@ module _ (b : State) (wf : WellFormed b) (x r y : ℕ) (never : can_get b x r y 
   no_holder =
       sym (holder_is b wf x r y)
       ∙ lowest_none b.size (λ t. b.has t r y && out_of b (only x) t)
-      (λ t l. is_false _ (λ h. subst T (sym (get_is b wf x r y) ∙ never) (some_from b.size (λ t. b.has t r y && out_of b (only x) t) t l h)))
+      (λ t l h. subst T (sym (get_is b wf x r y) ∙ never) (some_from b.size (λ t. b.has t r y && out_of b (only x) t) t l h))
 
   -- and in that of the last who gets at it.
   leads_to : {p q : ℕ} → TakePath b p q → (p ≡ q) ⊎ (q < b.size)
@@ -40,9 +40,9 @@ module _ (b : State) (wf : WellFormed b) (x r y : ℕ) (never : can_get b x r y 
   unfolding terminal_span
   no_last =
       lowest_none b.size (reaching b x b.size)
-      (λ q l. is_false _ (λ h.
+      (λ q l h.
       let path = (parts (is_subject b q) _ (parts (terminal_span b q b.size) _ h).0).1 in
-      elim (leads_to (take_path-to b q b.size path)) [ inl e ↦ omega arith | inr k ↦ omega arith ]))
+      elim (leads_to (take_path-to b q b.size path)) [ inl e ↦ omega arith | inr k ↦ omega arith ])
 
   -- It is no vertex, and its first act is to take the right from itself.
   abbrev first_act : Rule

@@ -1,37 +1,33 @@
--- A walk along the first of the shortest rows, vertex by vertex.
-use Rattle.std.proofs.Common.{◌≡◌, ℕ, zero, suc, ◌-◌, ◌<◌, Bool, ◌&&◌, eqb, List, [], ◌∷◌, ◌++◌, length, sym, refl, ap, ◌∙◌, append_assoc, append-nil, arith, length-append}
-use Rattle.model.specs.Closure.{within}
-use Rattle.model.specs.Exact.{lowest, lowest_from, first_row, shortest_row_of}
-use Rattle.model.proofs.Tests.{is_true}
+-- A walk along the first of the shortest rows, of which k steps are left.
+use Rattle.std.proofs.Common.{◌≡◌, ℕ, zero, suc, ◌+◌, ◌<◌, Bool, true, false, ◌&&◌, eqb, List, [], ◌∷◌, ◌++◌, sym, refl, ap, ◌∙◌, append_assoc, add-one, arith}
 use Rattle.std.proofs.lemmas.Bool.{cond-true}
 use lib.Dec.{eqb_refl}
-
--- Of the row of k vertices from x to y these are walked, and it has come to `at`.
-abbrev pub Walked : ℕ → (ℕ → ℕ → Bool) → ℕ → ℕ → ℕ → List ℕ → ℕ → Type 0
-Walked n e x y k row at = row ++ first_row (k - length row) n e at y ≡ first_row k n e x y
+use Rattle.model.specs.Closure.{within}
+use Rattle.model.specs.Exact.{lowest, lowest_from, first_row, shortest_row_of}
+use Rattle.model.proofs.ExactChoices.{lowest_is, lowest_none}
+use Rattle.model.proofs.Tests.{is_true, from_true, from_false}
 
 module _ (n : ℕ) (e : ℕ → ℕ → Bool) (x y k : ℕ) where
-  pub walked_none : Walked n e x y k [] x
-  walked_none = ap (λ m. first_row m n e x y) (omega arith)
+  -- Fewer steps don't lead from x to y: so the row has k if these do, or if there is none.
+  module _ (missed : (j : ℕ) → j < k → within j n e x y ≡ false) where
+    pub arrived : k < n → within k n e x y ≡ true → shortest_row_of n e x y ≡ first_row k n e x y
+    unfolding shortest_row_of
+    arrived l h =
+        ap (λ m. first_row m n e x y)
+        (lowest_is n (λ m. within m n e x y) k l (from_true _ h) (λ j b. from_false _ (missed j b)))
 
-  first_next : (m at v : ℕ) → v ≡ lowest n (λ z. e at z && within m n e z y) → first_row (suc m) n e at y ≡ v ∷ first_row m n e v y
-  unfolding first_row
-  first_next m at v h = ap (λ w. w ∷ first_row m n e w y) (sym h)
+    pub nowhere : k ≡ n → shortest_row_of n e x y ≡ first_row k n e x y
+    unfolding shortest_row_of
+    nowhere d = ap (λ m. first_row m n e x y) (lowest_none n (λ m. within m n e x y) (λ j b. from_false _ (missed j (omega arith))) ∙ sym d)
 
   pub walked_more :
-      (row : List ℕ) (at v : ℕ) → length row < k → v ≡ lowest n (λ z. e at z && within (k - 1 - length row) n e z y) → Walked n e x y k row at →
-      Walked n e x y k (row ++ v ∷ []) v
-  walked_more row at v h c inv =
-      append_assoc row (v ∷ []) (first_row (k - length (row ++ v ∷ [])) n e v y)
-      ∙ ap (λ m. row ++ v ∷ first_row m n e v y) (let l = length-append row (v ∷ []) in omega arith)
-      ∙ ap (λ t. row ++ t) (sym (first_next (k - 1 - length row) at v c) ∙ ap (λ m. first_row m n e at y) (omega arith))
-      ∙ inv
-
-  pub walked_all : (row : List ℕ) (at : ℕ) → length row ≡ k → Walked n e x y k row at → row ≡ first_row k n e x y
+      (row : List ℕ) (at v : ℕ) → v ≡ lowest n (λ z. e at z && within k n e z y) → row ++ first_row (k + 1) n e at y ≡ shortest_row_of n e x y →
+      (row ++ v ∷ []) ++ first_row k n e v y ≡ shortest_row_of n e x y
   unfolding first_row
-  walked_all row at h inv =
-      let done : 0 ≡ k - length row = omega arith in
-      sym (append-nil row) ∙ ap (λ m. row ++ first_row m n e at y) done ∙ inv
+  walked_more row at v h walked =
+      append_assoc row (v ∷ []) (first_row k n e v y)
+      ∙ ap (λ t. row ++ t) (ap (λ w. w ∷ first_row k n e w y) h ∙ ap (λ m. first_row m n e at y) (sym (add-one k)))
+      ∙ walked
 
 -- No step leads from a vertex to itself.
 pub stays_put : (n : ℕ) (e : ℕ → ℕ → Bool) (x : ℕ) → shortest_row_of n e x x ≡ []

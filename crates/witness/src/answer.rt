@@ -12,19 +12,18 @@ use crate::plan::Plan;
 use crate::routes::Routes;
 use crate::unwritten::Unwritten;
 use crate::write::write;
-use codec::Kind;
+use codec::{Kind, NARROW};
 use graph::Graph;
 use model::Question;
 
-// The bytes before the acts, and the most that an act has.
+// The bytes before the acts: the kind of the answer, and how many acts there are.
 const HEAD: usize = 5;
 
+// The most bytes of an act.
 const ACT: usize = 5;
 
-// The most vertices for which one byte numbers each that a plan makes.
-const MOST: u8 = 128;
-
-// The most bytes of an answer about so many vertices.
+// The most bytes of an answer about so many vertices. The checker, which stands on nothing of this crate, says again that
+// 8 (n + 2) (n + 2) acts are the most.
 pub fn longest_answer(size: u8) -> usize
     ensures { result ≡ longest_answer_len size }
 {
@@ -35,14 +34,8 @@ pub fn longest_answer(size: u8) -> usize
 fn write_head(acts: usize, out: &mut [u8]) -> Result<usize, Halt>
     ensures { Wrote result (head_bytes acts) out.old out.new }
 {
-    let head = [
-        u8::from(Kind::Yes),
-        (acts / 0x100_0000 % 256) as u8,
-        (acts / 0x1_0000 % 256) as u8,
-        (acts / 256 % 256) as u8,
-        (acts % 256) as u8,
-    ];
-    write(&head, out)
+    let [_, _, _, _, a, b, c, d] = acts.to_be_bytes();
+    write(&[u8::from(Kind::Yes), a, b, c, d], out)
 }
 
 // Writes the answer yes to the question, with its witness, at the start of `out`, and answers with how many bytes it has.
@@ -53,7 +46,7 @@ pub fn write_witness(graph: &Graph, question: Question, out: &mut [u8]) -> Resul
         return write_head(0, out);
     }
     let routes = Routes::of(graph);
-    // Where the right never comes about, already the first act is one that nobody may do.
+    // Where the right never comes about, there are no ends: of the acts that the exact witness is then defined to have, one can't be done.
     let Ok(ends) = Ends::of(&routes, question) else {
         return Err(Halt::Refused);
     };
@@ -67,7 +60,7 @@ impl Routes<'_> {
         ensures value { AnsweredAs (routed self.now) question result out.old out.new }
     {
         let size = self.graph.size();
-        if size > MOST || out.len() < longest_answer(size) {
+        if size > NARROW || out.len() < longest_answer(size) {
             return Err(Unwritten::NoRoom);
         }
         let Question {

@@ -1,39 +1,23 @@
 // Whom the right goes over: who has it, the last who gets at it, and the first who hands it on.
-ghost use Rattle.std.specs.Prelude.{◌≡◌, ℕ};
-ghost use Rattle.bits.specs.Sets.{holds};
-ghost use Rattle.graph.specs.Graphs.{state};
+ghost use Rattle.std.specs.Prelude.{◌≡◌};
 ghost use Rattle.model.specs.Exact.{first_for, last_for};
 ghost use Rattle.witness.specs.Ends.{Chosen, Round};
 ghost use Rattle.witness.specs.Of.{routed};
 
 use crate::choose::lowest_of;
 use crate::routes::Routes;
-use bits::VertexSet;
-use graph::Graph;
-use model::{Question, Right, Vertex};
+use bits::those;
+use model::{Question, Vertex};
 use spans::Barrier;
 
 #[derive(Clone, Copy)]
 pub struct Ends {
-    // The lowest who has the right and for whom there are such a last and first.
+    // The lowest who has the right already, and for whom there are such a last and first: not the question's holder, who is to come to have it.
     pub holder: Vertex,
     // The lowest who spans terminally to the holder.
     pub last: Vertex,
-    // The lowest who spans initially to x and is connected with the last.
+    // The lowest who spans initially to the question's holder and is connected with the last.
     pub first: Vertex,
-}
-
-// Who has right r to y.
-fn holding(graph: &Graph, r: Right, y: Vertex) -> VertexSet
-    ensures { (t : ℕ) → holds result t ≡ (state graph.now).has t r y }
-{
-    let mut set = VertexSet::empty();
-    for t in 0..graph.size() {
-        if graph.has(t, r, y) {
-            set.insert(t);
-        }
-    }
-    set
 }
 
 impl Ends {
@@ -45,17 +29,8 @@ impl Ends {
         ensures first { result.first ≡ first_for (routed routes.now) x result.last }
     {
         let size = routes.graph.size();
-        let last = lowest_of(
-            &routes.paths.terminal(holder).intersection(&barrier.inner),
-            size,
-        );
-        let first = lowest_of(
-            &routes
-                .paths
-                .initial(x)
-                .intersection(&routes.links.island(last)),
-            size,
-        );
+        let last = lowest_of(&routes.terminal(holder).intersection(&barrier.inner), size);
+        let first = lowest_of(&routes.initial(x).intersection(&routes.island(last)), size);
         Ends {
             holder,
             last,
@@ -69,7 +44,10 @@ impl Ends {
     {
         let x = question.holder;
         let barrier = routes.links.barrier(x);
-        let holders = holding(routes.graph, question.right, question.target);
+        let graph = routes.graph;
+        let holders = those(graph.size(), |t| {
+            graph.has(t, question.right, question.target)
+        });
         let reached = holders.intersection(&barrier.out);
         let Some(holder) = reached.lowest() else {
             return Err(barrier);

@@ -7,10 +7,8 @@ mod take;
 ghost use Rattle.std.specs.Prelude.{◌≤◌};
 
 use crate::routes::Routes;
-use bits::VertexSet;
 use graph::Graph;
 use model::{Right, Vertex};
-use spans::SETS;
 
 #[derive(Drop)]
 pub struct Plan<'a> {
@@ -18,11 +16,10 @@ pub struct Plan<'a> {
     routes: &'a Routes<'a>,
     // The graph after the acts that are written.
     graph: Graph,
-    // How many bytes are written, and how many acts.
+    // How many bytes are written, and how many acts. The slice that they are written to is no field, but is lent on from call to call:
+    // a rule of the project has the free end of a plan lent on to be written.
     pub(crate) used: usize,
     pub(crate) acts: usize,
-    // Room for the layers of a search for a path.
-    layers: [VertexSet; SETS],
     ghost each: { acts ≤ used },
 }
 

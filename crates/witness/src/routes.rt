@@ -11,7 +11,8 @@ ghost use Rattle.witness.specs.Beside.{near};
 
 use bits::VertexSet;
 use graph::Graph;
-use spans::{Links, SETS, TakePaths};
+use model::NUMBERS;
+use spans::{Links, TakePaths};
 
 #[derive(Drop)]
 pub struct Routes<'a> {
@@ -19,8 +20,8 @@ pub struct Routes<'a> {
     pub(crate) paths: TakePaths<'a>,
     pub(crate) links: Links<'a>,
     // Who is beside a vertex: has grant to it or is granted to by it.
-    beside: [VertexSet; SETS],
-    bridges: [VertexSet; SETS],
+    beside: [VertexSet; NUMBERS],
+    bridges: [VertexSet; NUMBERS],
     ghost same_paths: { spanned paths ≡ state graph.now },
     ghost same_links: { linked links ≡ state graph.now },
     ghost sides: { (u v : ℕ) → in_row beside u v ≡ near (state graph.now) u v },

@@ -1,70 +1,74 @@
 // The shortest row of steps from one vertex to another, of equals the first in lexicographic order.
-ghost use Rattle.std.specs.Prelude.{◌≡◌, ℕ, ◌<◌, ◌≤◌, ◌&&◌, length};
+ghost use Rattle.std.specs.Prelude.{◌≡◌, ℕ, ◌+◌, ◌<◌, ◌≤◌, false, [], ◌++◌};
+ghost use Rattle.arrayvec.specs.ArrayVec.{array_vec_len};
 ghost use Rattle.bits.specs.Sets.{holds, VertexSet};
-ghost use Rattle.graph.specs.Table.{in_row};
 ghost use Rattle.model.specs.Closure.{within};
-ghost use Rattle.model.specs.Exact.{lowest, shortest_row_of};
-ghost use Rattle.witness.specs.Rows.{Fits, turned};
+ghost use Rattle.model.specs.Exact.{first_row, shortest_row_of};
+ghost use Rattle.witness.specs.Rows.{IsLayer, turned};
 
 use crate::choose::lowest_of;
-use crate::tables::gather;
+use crate::layer::Layer;
+use crate::steps::Steps;
 use arrayvec::ArrayVec;
 use bits::VertexSet;
-use model::Vertex;
-use spans::SETS;
+use model::{NUMBERS, Vertex};
 
 // The vertices behind the first one of a row.
-pub type Row = ArrayVec<Vertex, SETS>;
+pub type Row = ArrayVec<Vertex, NUMBERS>;
 
-// The layers round y below the first that has x, or below `size` if none has. `room` is where they are laid.
-// Layer k is from where at most k steps lead to y. `back` has from whom a step leads to each vertex.
-fn lay<'a>(
-    back: &[VertexSet; SETS],
-    size: u8,
+// A search for the shortest row from x to y, layer by layer round y.
+#[derive(Clone, Copy)]
+struct Search<'a> {
+    steps: Steps<'a>,
     x: Vertex,
     y: Vertex,
-    room: &'a mut [VertexSet; SETS],
-) -> &'a [VertexSet]
-    requires { Fits size back.now }
-    ensures count { length result.now ≡ lowest size (λ k. within k size (turned back.now) x y) }
-    ensures bound { length result.now ≤ size }
-    ensures within { (k : ℕ) → k < length result.now → (z : ℕ) → in_row result.now k z ≡ within k size (turned back.now) z y }
-{
-    let mut near = VertexSet::empty();
-    near.insert(y);
-    let mut fresh = near;
-    for k in 0..size {
-        if near.contains(x) {
-            return &room[..k as usize];
-        }
-        room[k as usize] = near;
-        let next = near.union(&gather(back, &fresh));
-        fresh = next.difference(&near);
-        near = next;
-    }
-    &room[..size as usize]
 }
 
-// The shortest row of steps from x to y. `steps` tells to whom one leads from a vertex, `back` has from whom; `room` is where the layers are laid.
+impl Search<'_> {
+    // Goes on from the layer of k steps to that which has x, and comes back: adds the vertices of the row but for those of the last k steps,
+    // and answers with the one from which these lead on.
+    fn walk<F: Fn(Vertex) -> VertexSet>(
+        &self,
+        ahead: &F,
+        k: u8,
+        layer: &Layer,
+        row: &mut Row,
+    ) -> Vertex
+        requires callable { F.IsAlwaysCallable ahead.now }
+        requires ahead { (p : ℕ) (set : VertexSet) → p < 256 → F.post ahead.now p set → (z : ℕ) → holds set z ≡ turned self.now.steps.back.now p z }
+        requires layer { (k ≤ self.now.steps.size) × IsLayer self.now.steps.size self.now.steps.back.now self.now.y k layer.now }
+        requires missed { (j : ℕ) → j < k → within j self.now.steps.size (turned self.now.steps.back.now) self.now.x self.now.y ≡ false }
+        requires empty { row.old.items ≡ [] }
+        ensures few { array_vec_len row.new + k ≤ self.now.steps.size }
+        ensures walked { row.new.items ++ first_row k self.now.steps.size (turned self.now.steps.back.now) result self.now.y ≡ shortest_row_of self.now.steps.size (turned self.now.steps.back.now) self.now.x self.now.y }
+    {
+        if k == self.steps.size || layer.near.contains(self.x) {
+            return self.x;
+        }
+        let before = self.walk(ahead, k + 1, &layer.next(&self.steps), row);
+        let at = lowest_of(&ahead(before).intersection(&layer.near), self.steps.size);
+        row.push(at);
+        at
+    }
+}
+
+// The shortest row of steps from x to y; `ahead` tells to whom one leads from a vertex.
 pub fn shortest_row<F: Fn(Vertex) -> VertexSet>(
-    steps: F,
-    back: &[VertexSet; SETS],
-    size: u8,
+    ahead: F,
+    steps: &Steps,
     x: Vertex,
     y: Vertex,
-    room: &mut [VertexSet; SETS],
 ) -> Row
-    requires fits { Fits size back.now }
-    requires callable { F.IsAlwaysCallable steps }
-    requires steps { (p : ℕ) (set : VertexSet) → p < 256 → F.post steps p set → (z : ℕ) → holds set z ≡ turned back.now p z }
-    ensures { result.items ≡ shortest_row_of size (turned back.now) x y }
+    requires callable { F.IsAlwaysCallable ahead }
+    requires ahead { (p : ℕ) (set : VertexSet) → p < 256 → F.post ahead p set → (z : ℕ) → holds set z ≡ turned steps.now.back.now p z }
+    ensures { result.items ≡ shortest_row_of steps.now.size (turned steps.now.back.now) x y }
 {
-    let layers = lay(back, size, x, y, room);
+    let search = Search {
+        steps: *steps,
+        x,
+        y,
+    };
     let mut row = Row::new();
-    let mut at = x;
-    for near in layers.iter().rev() {
-        at = lowest_of(&steps(at).intersection(near), size);
-        row.push(at);
-    }
+    search.walk(&ahead, 0, &Layer::of(y), &mut row);
     row
 }

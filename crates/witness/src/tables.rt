@@ -10,12 +10,13 @@ ghost use Rattle.witness.specs.Beside.{near};
 
 use bits::VertexSet;
 use graph::Graph;
-use model::{GRANT, Vertex};
-use spans::{Links, SETS, TakePaths};
+use model::{GRANT, NUMBERS, Vertex};
+use spans::{Links, TakePaths};
 use std::array;
 
 // What the rows of the table have that belong to one of the set.
-pub fn gather(table: &[VertexSet; SETS], set: &VertexSet) -> VertexSet
+// A union over a set is a loop at its place: a function that takes what is united as a closure would be no shorter.
+pub fn gather(table: &[VertexSet; NUMBERS], set: &VertexSet) -> VertexSet
     ensures { (k : ℕ) → holds result k ≡ some_below 256 (λ u. holds set.now u && in_row table.now u k) }
 {
     let mut all = VertexSet::empty();
@@ -26,7 +27,7 @@ pub fn gather(table: &[VertexSet; SETS], set: &VertexSet) -> VertexSet
 }
 
 // A row for each number that a vertex can have.
-fn each<F: Fn(Vertex) -> VertexSet>(row: F) -> [VertexSet; SETS]
+fn each<F: Fn(Vertex) -> VertexSet>(row: F) -> [VertexSet; NUMBERS]
     requires { F.IsAlwaysCallable row }
     ensures rows { (p : ℕ) → p < 256 → (set : VertexSet) × F.post row p set × ((q : ℕ) → in_row result p q ≡ holds set q) }
     ensures past { (p q : ℕ) → 256 ≤ p → in_row result p q ≡ false }
@@ -35,7 +36,7 @@ fn each<F: Fn(Vertex) -> VertexSet>(row: F) -> [VertexSet; SETS]
 }
 
 // Who has grant to each vertex, or is granted to by it.
-pub fn beside(graph: &Graph, links: &Links) -> [VertexSet; SETS]
+pub fn beside(graph: &Graph, links: &Links) -> [VertexSet; NUMBERS]
     requires { linked links.now ≡ state graph.now }
     ensures { (u v : ℕ) → in_row result u v ≡ near (state graph.now) u v }
 {
@@ -46,7 +47,7 @@ pub fn beside(graph: &Graph, links: &Links) -> [VertexSet; SETS]
 fn bridges_from(
     graph: &Graph,
     paths: &TakePaths,
-    beside: &[VertexSet; SETS],
+    beside: &[VertexSet; NUMBERS],
     p: Vertex,
 ) -> VertexSet
     requires sides { (u v : ℕ) → in_row beside.now u v ≡ near (state graph.now) u v }
@@ -63,7 +64,11 @@ fn bridges_from(
 }
 
 // To whom a bridge leads, from each vertex.
-pub fn bridges(graph: &Graph, paths: &TakePaths, beside: &[VertexSet; SETS]) -> [VertexSet; SETS]
+pub fn bridges(
+    graph: &Graph,
+    paths: &TakePaths,
+    beside: &[VertexSet; NUMBERS],
+) -> [VertexSet; NUMBERS]
     requires sides { (u v : ℕ) → in_row beside.now u v ≡ near (state graph.now) u v }
     requires same { spanned paths.now ≡ state graph.now }
     ensures { (p q : ℕ) → in_row result p q ≡ bridge (state graph.now) p q }

@@ -8,7 +8,7 @@ use spans::Barrier;
 pub enum Unwritten {
     // There is none: the right never comes about, and these three sets show it.
     Never(Barrier),
-    // The lent memory is shorter than the longest answer, or there are more than 128 vertices.
+    // The lent memory is shorter than the longest answer, or there are more vertices than codec's NARROW, 128.
     NoRoom,
 }
 

@@ -1,4 +1,5 @@
 // Where take paths lead to from those who can come to give something to a vertex: found by the rows, round by round.
+// A union over a set is a loop at its place: a function that takes what is united as a closure would be no shorter.
 ghost use Rattle.std.specs.Prelude.{◌≡◌, ℕ, ◌&&◌};
 ghost use Rattle.bits.specs.Sets.{holds};
 ghost use Rattle.changing.specs.Of.{kept_row, tracked};
@@ -8,8 +9,7 @@ ghost use Rattle.model.specs.Certificates.{out_of};
 ghost use Rattle.model.specs.Spans.{can_grant};
 
 use super::ChangingGraph;
-use crate::select::those;
-use bits::VertexSet;
+use bits::{VertexSet, those};
 use model::{GRANT, Vertex};
 
 fn overlap(a: &VertexSet, b: &VertexSet) -> bool
@@ -84,9 +84,7 @@ impl ChangingGraph {
     pub(super) fn out_of(&self, x: Vertex) -> VertexSet
         ensures value { (k : ℕ) → holds result k ≡ out_of (tracked self.now) (only x) k }
     {
-        let mut holder = VertexSet::empty();
-        holder.insert(x);
-        let mut entries = self.givers(&holder);
+        let mut entries = self.givers(&VertexSet::only(usize::from(x)));
         let mut out = VertexSet::empty();
         loop {
             let others = self.graph.subjects().difference(&out);

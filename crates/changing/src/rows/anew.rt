@@ -1,4 +1,6 @@
-// Rows of a set of vertices, worked out anew.
+// Rows of a set of vertices, worked out anew. Each method is the loop over a set that its name says: a function that takes what is done
+// for each vertex as a closure would be no shorter than these three lines. The rounds are like those of `spans::lead`, but only the rows
+// of the set are worked on, and a round is left out where it would add nothing.
 ghost use Rattle.std.specs.Prelude.{◌≡◌, ℕ, ◌<◌, true, false, ◌&&◌, ◌||◌, T, if◌then◌else◌, ◌==◌, nat_eq, nat_lt};
 ghost use Rattle.bits.specs.Sets.{holds};
 ghost use Rattle.changing.specs.Reached.{of_some};
@@ -7,8 +9,7 @@ ghost use Rattle.changing.specs.Rows.{in_rows};
 ghost use Rattle.graph.specs.Graphs.{state};
 
 use super::Rows;
-use crate::select::those;
-use bits::VertexSet;
+use bits::{VertexSet, those};
 use graph::Graph;
 use model::{TAKE, Vertex};
 

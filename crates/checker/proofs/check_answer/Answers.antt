@@ -8,7 +8,7 @@ use Rattle.codec.specs.Reading.{byte_at}
 use Rattle.codec.specs.declared.fault.Fault.{Fault}
 use Rattle.codec.specs.declared.fault.Fault.TheVariants.{UnknownKind}
 use Rattle.codec.specs.declared.kind.Kind.TheVariants.{Yes, No}
-use Rattle.codec.proofs.KindNumbers.{not_kind, no_kind_in}
+use Rattle.codec.proofs.Inverted.{not_kind, no_kind_in}
 use Rattle.checker.specs.Reading.{Checked, reading}
 use Rattle.checker.specs.Checked.{witness_checked, certificate_checked}
 use Rattle.checker.specs.declared.fault.CheckFault.TheVariants.{Input}

@@ -4,9 +4,9 @@ ghost use Rattle.bits.specs.Sets.{holds};
 ghost use Rattle.graph.specs.Graphs.{state, bare};
 ghost use Rattle.model.specs.Rules.{given, removed};
 
-use super::{Graph, NUMBERS, ROWS};
+use super::{Graph, ROWS};
 use bits::VertexSet;
-use model::{RIGHTS, Right, Vertex};
+use model::{NUMBERS, RIGHTS, Right, Vertex};
 
 impl Graph {
     // A graph of so many vertices with these subjects, in which nobody has a right. None if there is no vertex, or a subject is not among them.
@@ -24,7 +24,7 @@ impl Graph {
         })
     }
 
-    // The same graph again, to work on.
+    // The same graph again, to work on. It isn't `clone`, which could run out of memory in this language, and a graph is too large to be `Copy`.
     pub fn copy(&self) -> Graph
         ensures value { state result ≡ state self.now }
     {
@@ -35,7 +35,7 @@ impl Graph {
         }
     }
 
-    // `p` has right `r` to `q` from now on. False, and nothing is changed, if one of them isn't there.
+    // `p` has right `r` to `q` from now on. False, and nothing is changed, if one of them isn't there: a bool as of a set's `insert`, since there is but one refusal.
     pub fn give(&mut self, p: Vertex, r: Right, q: Vertex) -> bool
         ensures value { result ≡ (nat_lt p (state self.old).size && (nat_lt r 8 && nat_lt q (state self.old).size)) }
         ensures after { state self.new ≡ (if result then given p r q (state self.old) else state self.old) }

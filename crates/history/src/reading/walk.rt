@@ -5,9 +5,9 @@ ghost use Rattle.codec.specs.Reads.{Reads};
 ghost use Rattle.history.specs.Left.{ahead, first, left, now};
 ghost use Rattle.history.specs.Posed.{posed, posed_question_at};
 
-use super::{ASKED, Reading};
+use super::Reading;
 use changing::ChangingGraph;
-use codec::{Fault, Kind, Reader, apply_act, read_narrow_book};
+use codec::{Fault, Kind, NARROW, Reader, apply_act, read_narrow_book};
 use model::Question;
 
 // The question that comes next, about a book of so many vertices.
@@ -15,7 +15,7 @@ fn read_posed(input: &mut Reader, size: u8) -> Result<Question, Fault>
     ensures value { Reads result input.old input.new (λ bs at. posed_question_at bs at size) }
     ensures bound { IfOk result (λ _. (input.old.at < input.new.at) × (size ≤ 128)) }
 {
-    if size > ASKED {
+    if size > NARROW {
         return Err(Fault::OutOfRange { at: input.at() });
     }
     input.question(size)
@@ -84,6 +84,7 @@ impl Reading<'_> {
         let mut input = self.input;
         apply_act(&mut input, self.acts, &mut self.book)?;
         self.input = input;
+        // Acts are numbered only where they are done, so the count stands here and not in the reader.
         self.acts += 1;
         Ok(())
     }

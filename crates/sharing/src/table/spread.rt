@@ -14,7 +14,8 @@ use model::{GRANT, RIGHTS, Right, Vertex};
 type Held<const W: usize> = [BitSet<W>; RIGHTS as usize];
 
 impl<const W: usize> Table<'_, '_, W> {
-    // Adds `who` to the rows of right r to each of the targets, of those that word c has.
+    // Adds `who` to the rows of right r to each of the targets, of those that word c has: word by word, since a walk through
+    // the members of the whole set made the table take half as long again.
     fn share_word(&mut self, r: Right, c: usize, word: u64, who: &BitSet<W>)
         requires bound { (c < 4) × (r < 8) }
         requires there { (j : ℕ) → T (bit word j) → 64 * c + j < (about W self.old).size }
@@ -47,7 +48,7 @@ impl<const W: usize> Table<'_, '_, W> {
         }
     }
 
-    // For each right, whom some vertex of the set has it to.
+    // For each right, whom some vertex of the set has it to: eight unions in one walk.
     fn gather(&self, set: &BitSet<W>) -> Held<W>
         ensures { (r y : ℕ) → in_sets result r y ≡ held_by (about W self.now) (among W set.now) r y }
     {
@@ -65,8 +66,8 @@ impl<const W: usize> Table<'_, '_, W> {
         let held = self.gather(out);
         let mut who = *inner;
         who.add(&held[usize::from(GRANT)]);
-        for r in 0..RIGHTS {
-            self.share(r, &held[usize::from(r)], &who);
+        for (r, targets) in held.iter().enumerate() {
+            self.share(r as Right, targets, &who);
         }
     }
 }

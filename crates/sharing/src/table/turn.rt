@@ -1,4 +1,4 @@
-// Who has which right: the rows of targets turned round.
+// Who has which right: the rows of targets turned round. A block is 64 lent rows, taken by their index, and its rows go eight apart into the table.
 ghost use Rattle.std.specs.Prelude.{◌≡◌, ℕ, ◌+◌, ◌*◌, ◌/◌, ◌%◌, ◌<◌, ◌≤◌, true, ◌&&◌, length, ◌==◌};
 ghost use Rattle.bits.specs.Rows.{cell};
 ghost use Rattle.bits.specs.Sets.{among};
@@ -12,9 +12,10 @@ use model::{RIGHTS, Right, Vertex};
 // 64 rows of at most four words.
 const BLOCK: usize = 256;
 
-// Rows of targets that are looked at to guess how many rights there are, and how many rights make it worthwhile to turn whole blocks.
+// How many rows of targets are looked at to guess how many rights there are.
 const SAMPLE: u8 = 16;
 
+// How many rights in these make it worthwhile to turn whole blocks: where both ways took as long when they were measured at 128 vertices.
 const MANY: usize = 43;
 
 impl<const W: usize> Table<'_, '_, W> {
@@ -67,23 +68,24 @@ impl<const W: usize> Table<'_, '_, W> {
         self.store(block, r, g);
     }
 
-    // The row of right r to each vertex becomes who has it.
-    fn turn_right(&mut self, r: Right, block: &mut [u64])
-        requires { (r < 8) × (64 * W ≤ length block.old) }
-        ensures { Becomes W self.old self.new (placed (about W self.old) (λ i x. i % 8 == r) (has_row (about W self.old)) (cells W self.old)) }
+    // Word g of each row becomes who has the right, of the 64 vertices from 64 * g on.
+    fn turn_group(&mut self, g: usize, block: &mut [u64])
+        requires { (g < W) × (64 * W ≤ length block.old) }
+        ensures { Becomes W self.old self.new (placed (about W self.old) (λ i x. x / 64 == g) (has_row (about W self.old)) (cells W self.old)) }
     {
-        for g in 0..W {
+        for r in 0..RIGHTS {
             self.turn_word(r, g, block);
         }
     }
 
     // The rows of each vertex become who has which right to it: by whole blocks, at a cost that doesn't depend on how many rights there are.
+    // The rights of 64 vertices are all turned before those of the next 64, so that they stay near.
     fn turn_blocks(&mut self)
         ensures { Becomes W self.old self.new (placed (about W self.old) (λ i x. true) (has_row (about W self.old)) (cells W self.old)) }
     {
         let mut block = [0; BLOCK];
-        for r in 0..RIGHTS {
-            self.turn_right(r, &mut block);
+        for g in 0..W {
+            self.turn_group(g, &mut block);
         }
     }
 
@@ -92,8 +94,7 @@ impl<const W: usize> Table<'_, '_, W> {
         requires { x < (about W self.old).size }
         ensures { Becomes W self.old self.new (added (about W self.old) (λ i y. y == x) (cells W self.old)) }
     {
-        let every: BitSet<W> = BitSet::below(usize::from(self.graph.size()));
-        let one = every.pick(usize::from(x));
+        let one = BitSet::only(usize::from(x));
         for r in 0..RIGHTS {
             let targets = self.targets(x, r);
             self.share(r, &targets, &one);
@@ -109,7 +110,7 @@ impl<const W: usize> Table<'_, '_, W> {
         }
     }
 
-    // Are there few rights? A guess by a sample, on which nothing depends but the time that is taken.
+    // Are there few rights? A guess by a sample, every eighth vertex with each right in turn, on which nothing depends but the time that is taken.
     fn few(&self) -> bool {
         let sample: usize = (0..SAMPLE)
             .map(|k| self.graph.targets(8 * k, k % 8).count())
@@ -125,9 +126,9 @@ impl<const W: usize> Table<'_, '_, W> {
             self.rows.fill(0);
             self.enter_all();
         } else {
-            // The rows before these are overwritten.
-            let kept = 8 * usize::from(self.graph.size()) * W;
-            self.rows[kept..].fill(0);
+            // Those of the graph's vertices are overwritten, and the others are to be empty.
+            let used = 8 * usize::from(self.graph.size()) * W;
+            self.rows[used..].fill(0);
             self.turn_blocks();
         }
     }

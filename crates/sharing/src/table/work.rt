@@ -11,16 +11,16 @@ ghost use Rattle.sharing.specs.Table.{has_row, shares_row, table_words};
 use super::{Table, row};
 use bits::BitSet;
 use graph::Graph;
-use model::{GRANT, Right, TAKE};
-use spans::{SETS, WideLinks};
+use model::{GRANT, NARROW, NUMBERS, Right, TAKE};
+use spans::WideLinks;
 
 impl<'g, const W: usize> Table<'g, '_, W> {
-    // Who has right r to each vertex.
-    fn holders(&self, r: Right) -> [BitSet<W>; SETS]
+    // Who has right r to each vertex: by its number, since there is a row only for those that are there.
+    fn holders(&self, r: Right) -> [BitSet<W>; NUMBERS]
         requires { r < 8 }
         ensures { (y x : ℕ) → in_sets result y x ≡ (nat_lt y (about W self.now).size && cells W self.now (8 * y + r) x) }
     {
-        let mut sets = [BitSet::empty(); SETS];
+        let mut sets = [BitSet::empty(); NUMBERS];
         for y in 0..self.graph.size() {
             sets[usize::from(y)] = BitSet::at(self.rows, row(r, y));
         }
@@ -71,7 +71,7 @@ pub fn filled<'m>(graph: &Graph, rows: &'m mut [u64]) -> &'m [u64]
     ensures cells { (i x : ℕ) → cell result.now (row_words (state graph.now).size) i x ≡ shares_row (state graph.now) i x }
     ensures size { table_words (state graph.now).size ≤ length result.now }
 {
-    if graph.size() <= 128 {
+    if graph.size() <= NARROW {
         worked_out::<2>(graph, rows)
     } else {
         worked_out::<4>(graph, rows)

@@ -9,17 +9,17 @@ ghost use Rattle.spans.specs.Of.{linked};
 ghost use Rattle.spans.specs.Sets.{in_sets};
 
 use super::{Links, WideLinks};
-use crate::turned::{SETS, holders};
+use crate::turned::holders;
 use bits::{BitSet, VertexSet};
 use graph::Graph;
-use model::{GRANT, TAKE, Vertex};
+use model::{GRANT, NUMBERS, TAKE, Vertex};
 
 impl<'a, const W: usize> WideLinks<'a, W> {
     // With who has take to each vertex, and who has grant.
     pub fn with(
         graph: &'a Graph,
-        takers: [BitSet<W>; SETS],
-        granters: [BitSet<W>; SETS],
+        takers: [BitSet<W>; NUMBERS],
+        granters: [BitSet<W>; NUMBERS],
     ) -> WideLinks<'a, W>
         requires wide { ((state graph.now).size ≤ 64 * W) × (W ≤ 4) }
         requires taken { (y k : ℕ) → in_sets takers y k ≡ (state graph.now).has k 0 y }
@@ -31,19 +31,6 @@ impl<'a, const W: usize> WideLinks<'a, W> {
             takers,
             granters,
         }
-    }
-
-    pub(super) fn subjects(&self) -> BitSet<W>
-        ensures value { (q : ℕ) → among W result q ≡ is_subject (linked self.now) q }
-    {
-        self.graph.subjects().resized()
-    }
-
-    // Whom p has take to.
-    pub(super) fn takes(&self, p: Vertex) -> BitSet<W>
-        ensures value { (q : ℕ) → among W result q ≡ can_take (linked self.now) p q }
-    {
-        self.graph.targets(p, TAKE).resized()
     }
 
     // Who has take to p.
@@ -59,28 +46,6 @@ impl<'a, const W: usize> WideLinks<'a, W> {
     {
         self.granters[p as usize]
     }
-
-    // p alone, if it is a subject.
-    pub(super) fn itself(&self, p: Vertex) -> BitSet<W>
-        ensures value { (q : ℕ) → among W result q ≡ (q == p && is_subject (linked self.now) p) }
-    {
-        self.subjects().pick(p as usize)
-    }
-
-    // Who has grant to p, and p itself if it is a subject.
-    pub(super) fn givers(&self, p: Vertex) -> BitSet<W>
-        ensures value { (q : ℕ) → among W result q ≡ ((q == p && is_subject (linked self.now) p) || can_grant (linked self.now) q p) }
-    {
-        self.itself(p).union(&self.granters(p))
-    }
-
-    // Who has grant to p or is granted to by p, and p itself if it is a subject.
-    pub(super) fn beside(&self, p: Vertex) -> BitSet<W>
-        ensures value { (q : ℕ) → among W result q ≡ (can_grant (linked self.now) p q || ((q == p && is_subject (linked self.now) p) || can_grant (linked self.now) q p)) }
-    {
-        let granted: BitSet<W> = self.graph.targets(p, GRANT).resized();
-        granted.union(&self.givers(p))
-    }
 }
 
 impl<'a> Links<'a> {
@@ -91,7 +56,7 @@ impl<'a> Links<'a> {
     }
 
     // Who has take to each vertex.
-    pub fn takers_of_each(&self) -> &[VertexSet; SETS]
+    pub fn takers_of_each(&self) -> &[VertexSet; NUMBERS]
         ensures value { (p q : ℕ) → in_row result.now p q ≡ can_take (linked self.now) q p }
     {
         &self.takers

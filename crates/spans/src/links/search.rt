@@ -1,5 +1,5 @@
 // The search for a barrier: from a vertex over single rights, each vertex looked at once from each side.
-ghost use Rattle.std.specs.Prelude.{◌≡◌, ℕ, ◌+◌, ◌<◌, true, false, ◌&&◌};
+ghost use Rattle.std.specs.Prelude.{◌≡◌, ℕ, ◌+◌, ◌*◌, ◌<◌, ◌≤◌, true, false, ◌&&◌};
 ghost use Rattle.bits.specs.Sets.{among, holds};
 ghost use Rattle.model.specs.Bounded.{only};
 ghost use Rattle.model.specs.Certificates.{inner_of, out_of, into_of};
@@ -8,50 +8,53 @@ ghost use Rattle.model.specs.State.{is_subject};
 ghost use Rattle.spans.specs.Fronts.{looked_at, unseen};
 ghost use Rattle.spans.specs.Of.{linked};
 ghost use Rattle.spans.specs.Searching.{Searching};
+ghost use Rattle.spans.specs.Viewed.{viewed};
 ghost use Rattle.std.proofs.Props.{props};
 
+use super::view::View;
 use super::{Links, WideLinks};
 use crate::barrier::Barrier;
 use crate::front::Front;
+use crate::rows::width;
 use bits::{BitSet, VertexSet};
 use model::Vertex;
 
 // How far it has come.
 #[derive(Drop)]
-struct Search<'l, 'a, const W: usize> {
-    links: &'l WideLinks<'a, W>,
-    from: Vertex,
+struct Search<'l, 'a, const W: usize, const V: usize> {
+    view: View<'l, 'a, W, V>,
     // What the take paths from inside lead to, and from where they lead to whatever can give something.
-    out: Front<W>,
-    into: Front<W>,
-    ghost searching: { Searching (linked links.now) from (among W out.found) (among W into.found) (looked_at out) (looked_at into) } by { Prim.hlevel props },
+    out: Front<V>,
+    into: Front<V>,
+    from: Vertex,
+    ghost searching: { Searching (viewed view) from (among V out.found) (among V into.found) (looked_at out) (looked_at into) } by { Prim.hlevel props },
 }
 
-impl<'l, 'a, const W: usize> Search<'l, 'a, W> {
-    fn of(links: &'l WideLinks<'a, W>, from: Vertex) -> Search<'l, 'a, W>
-        ensures { (result.links ≡ links.entry) × (result.from ≡ from) }
+impl<'l, 'a, const W: usize, const V: usize> Search<'l, 'a, W, V> {
+    fn of(view: View<'l, 'a, W, V>, from: Vertex) -> Search<'l, 'a, W, V>
+        ensures { (result.view ≡ view.entry) × (result.from ≡ from) }
     {
         Search {
-            links,
-            from,
+            view,
             out: Front::of(BitSet::empty()),
-            into: Front::of(links.givers(from)),
+            into: Front::of(view.givers(from)),
+            from,
         }
     }
 
     // Looks at one more. False if all that was found was looked at.
     fn step(&mut self) -> bool
-        ensures same { (self.new.links ≡ self.old.links) × (self.new.from ≡ self.old.from) }
+        ensures same { (self.new.view ≡ self.old.view) × (self.new.from ≡ self.old.from) }
         ensures fewer { result ≡ true → unseen self.new.out + unseen self.new.into < unseen self.old.out + unseen self.old.into }
-        ensures over { result ≡ false → ((k : ℕ) → among W self.new.out.left k ≡ false) × ((k : ℕ) → among W self.new.into.left k ≡ false) }
+        ensures over { result ≡ false → ((k : ℕ) → among V self.new.out.left k ≡ false) × ((k : ℕ) → among V self.new.into.left k ≡ false) }
     {
         if let Some(p) = self.out.pop() {
-            self.out.add(&self.links.takes(p));
-            self.into.add(&self.links.beside(p));
+            self.out.add(&self.view.takes(p));
+            self.into.add(&self.view.beside(p));
             true
         } else if let Some(p) = self.into.pop() {
-            self.into.add(&self.links.takers(p));
-            self.out.add(&self.links.itself(p));
+            self.into.add(&self.view.takers(p));
+            self.out.add(&self.view.itself(p));
             true
         } else {
             false
@@ -65,7 +68,8 @@ impl<const W: usize> WideLinks<'_, W> {
         ensures value { (k : ℕ) → among W result k ≡ out_of (linked self.now) (only x) k }
     {
         let every: BitSet<W> = BitSet::below(self.graph.size() as usize);
-        let mut search = Search::of(self, x);
+        let view: View<W, W> = View::of(self);
+        let mut search = Search::of(view, x);
         // Nothing can be added to a whole set.
         while !every.is_subset(&search.out.found) && search.step() {}
         search.out.found
@@ -73,18 +77,35 @@ impl<const W: usize> WideLinks<'_, W> {
 }
 
 impl Links<'_> {
+    // The least barrier round x, found in sets of V words.
+    fn barrier_in<const V: usize>(&self, x: Vertex) -> Barrier
+        requires { ((linked self.now).size ≤ 64 * V) × (V ≤ 4) }
+        ensures inner { (k : ℕ) → holds result.inner k ≡ inner_of (linked self.now) (only x) k }
+        ensures out { (k : ℕ) → holds result.out k ≡ out_of (linked self.now) (only x) k }
+        ensures into { (k : ℕ) → holds result.into k ≡ into_of (linked self.now) (only x) k }
+    {
+        let view: View<4, V> = View::of(self);
+        let mut search = Search::of(view, x);
+        while search.step() {}
+        let out: VertexSet = search.out.found.resized();
+        Barrier {
+            inner: self.graph.subjects().intersection(&out),
+            out,
+            into: search.into.found.resized(),
+        }
+    }
+
     // The least barrier round x.
+    #[tactic(auto, unfolding(crate::specs::Paths::row_words))]
     pub fn barrier(&self, x: Vertex) -> Barrier
         ensures inner { (k : ℕ) → holds result.inner k ≡ inner_of (linked self.now) (only x) k }
         ensures out { (k : ℕ) → holds result.out k ≡ out_of (linked self.now) (only x) k }
         ensures into { (k : ℕ) → holds result.into k ≡ into_of (linked self.now) (only x) k }
     {
-        let mut search = Search::of(self, x);
-        while search.step() {}
-        Barrier {
-            inner: self.subjects().intersection(&search.out.found),
-            out: search.out.found,
-            into: search.into.found,
+        if width(self.graph.size()) == 2 {
+            self.barrier_in::<2>(x)
+        } else {
+            self.barrier_in::<4>(x)
         }
     }
 

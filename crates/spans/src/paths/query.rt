@@ -7,28 +7,26 @@ ghost use Rattle.spans.specs.Of.{spanned};
 ghost use Rattle.spans.specs.Paths.{back_from, path_from};
 
 use super::TakePaths;
-use crate::rows::width;
-use crate::turned::SETS;
-use bits::{VertexSet, row_set};
-use model::{GRANT, Vertex};
+use bits::{VertexSet, those};
+use model::{GRANT, NUMBERS, Vertex};
 
 impl TakePaths<'_> {
     // Where take paths lead to from x.
     pub fn from(&self, x: Vertex) -> VertexSet
         ensures value { (k : ℕ) → holds result k ≡ path_from (spanned self.now) x k }
     {
-        row_set(&self.rows, width(self.graph.size()), x as usize)
+        self.rows[usize::from(x)]
     }
 
     // From where take paths lead to y.
     pub fn to(&self, y: Vertex) -> VertexSet
         ensures value { (k : ℕ) → holds result k ≡ path_from (spanned self.now) k y }
     {
-        self.back[y as usize]
+        self.back[usize::from(y)]
     }
 
     // From where take paths lead to each vertex.
-    pub fn to_each(&self) -> &[VertexSet; SETS]
+    pub fn to_each(&self) -> &[VertexSet; NUMBERS]
         ensures value { (y x : ℕ) → in_row result.now y x ≡ path_from (spanned self.now) x y }
     {
         &self.back
@@ -48,15 +46,13 @@ impl TakePaths<'_> {
     }
 
     // From where take paths lead to whatever has grant to x, and x itself.
+    // A union over a set is a loop at its place: a function that takes what is united as a closure would be no shorter.
     fn back_from(&self, x: Vertex) -> VertexSet
         ensures value { (q : ℕ) → holds result q ≡ back_from (spanned self.now) x q }
     {
-        let mut set = VertexSet::empty();
-        set.insert(x);
-        for u in 0..self.graph.size() {
-            if self.graph.has(u, GRANT, x) {
-                set = set.union(&self.to(u));
-            }
+        let mut set = VertexSet::only(usize::from(x));
+        for u in those(self.graph.size(), |u| self.graph.has(u, GRANT, x)) {
+            set.add(&self.to(u));
         }
         set
     }

@@ -1,40 +1,33 @@
 // Take paths worked out.
-ghost use Rattle.std.specs.Prelude.{◌≡◌, ℕ, ◌*◌, ◌≤◌, ◌&&◌, length, nat_lt};
+ghost use Rattle.std.specs.Prelude.{◌≡◌, ℕ, ◌*◌, ◌<◌, ◌≤◌};
 ghost use Rattle.bits.specs.Rows.{cell};
+ghost use Rattle.bits.specs.Sets.{holds};
 ghost use Rattle.graph.specs.Graphs.{state};
 ghost use Rattle.graph.specs.Table.{in_row};
 ghost use Rattle.spans.specs.Of.{spanned};
-ghost use Rattle.spans.specs.Paths.{path_from, row_words};
+ghost use Rattle.spans.specs.Paths.{path_from};
 
-use super::{TakePaths, WORDS};
+use super::TakePaths;
 use crate::closure::lead;
-use crate::rows::width;
-use crate::turned::{SETS, enter};
+use crate::turned::turned;
 use bits::{VertexSet, row_set};
 use graph::Graph;
+use model::{NARROW, NUMBERS};
+use std::array;
 
-fn rows_of(graph: &Graph) -> [u64; WORDS]
-    ensures { (x y : ℕ) → cell result (row_words (state graph.now).size) x y ≡ path_from (state graph.now) x y }
+// Where take paths lead to from each vertex, worked out in rows of W words, which have room for each.
+fn rows_of<const W: usize>(graph: &Graph) -> [VertexSet; NUMBERS]
+    requires { ((state graph.now).size ≤ 64 * W) × (W ≤ 4) }
+    ensures { (x y : ℕ) → in_row result x y ≡ path_from (state graph.now) x y }
 {
-    let mut rows = [0; WORDS];
-    if graph.size() <= 128 {
-        lead::<2>(graph, &mut rows);
-    } else {
-        lead::<4>(graph, &mut rows);
-    }
-    rows
-}
-
-// The first n rows, turned round.
-fn turn(rows: &[u64], w: usize, n: u8) -> [VertexSet; SETS]
-    requires { (n * w ≤ length rows.now) × (w ≤ 4) }
-    ensures { (y x : ℕ) → in_row result y x ≡ (nat_lt x n && cell rows.now w x y) }
-{
-    let mut sets = [VertexSet::empty(); SETS];
-    for x in 0..n {
-        enter(&mut sets, row_set(rows, w, x as usize), x);
-    }
-    sets
+    let mut rows = [0; 4 * NUMBERS];
+    lead::<W>(graph, &mut rows);
+    array::from_fn(
+        |x: usize| -> VertexSet
+            requires { (x < 256) × (W ≤ 4) }
+            ensures { (k : ℕ) → holds result k ≡ cell rows W x k }
+        { row_set(&rows, W, x) },
+    )
 }
 
 impl<'a> TakePaths<'a> {
@@ -42,8 +35,12 @@ impl<'a> TakePaths<'a> {
         ensures value { spanned result ≡ state graph.now }
     {
         let n = graph.size();
-        let rows = rows_of(graph);
-        let back = turn(&rows, width(n), n);
+        let rows = if n <= NARROW {
+            rows_of::<2>(graph)
+        } else {
+            rows_of::<4>(graph)
+        };
+        let back = turned(n, |x| rows[usize::from(x)]);
         TakePaths { graph, rows, back }
     }
 }

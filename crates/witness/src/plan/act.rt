@@ -8,9 +8,7 @@ use super::{Held, Plan};
 use crate::halt::Halt;
 use crate::routes::Routes;
 use crate::write::write_act;
-use bits::VertexSet;
 use model::{Create, Grant, Rule, Take, Vertex};
-use spans::SETS;
 
 // Take and grant, to a new object.
 const BOTH: u8 = 3;
@@ -25,7 +23,6 @@ impl<'a> Plan<'a> {
             graph: routes.graph.copy(),
             used: 0,
             acts: 0,
-            layers: [VertexSet::empty(); SETS],
         }
     }
 

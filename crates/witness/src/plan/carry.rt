@@ -51,7 +51,7 @@ impl Plan<'_> {
             to: question.target,
         };
         self.take_to(ends.last, ends.holder, held, out)?;
-        let row = self.routes.row(ends.last, ends.first, &mut self.layers);
+        let row = self.routes.row(ends.last, ends.first);
         self.over_row(ends.last, &row, held, out)?;
         self.hand_to(ends.first, question.holder, held, out)
     }

@@ -45,7 +45,7 @@ impl Plan<'_> {
         if p == y {
             return self.take_unless_held(p, p, held, out);
         }
-        let path = self.routes.path(p, y, &mut self.layers);
+        let path = self.routes.path(p, y);
         self.take_along(p, &path, held, out)
     }
 

@@ -1,45 +1,63 @@
 // What routes tell: the shortest ways, and where they meet.
 ghost use Rattle.bits.specs.Sets.{holds};
 ghost use Rattle.model.specs.Exact.{far_end, last_holder, lowest, near_end, shortest_path, shortest_row_of};
-ghost use Rattle.model.specs.Spans.{bridge, can_grant, take_path};
+ghost use Rattle.model.specs.Spans.{bridge, can_grant, connected, initial_span, take_path, terminal_span};
 ghost use Rattle.witness.specs.Of.{routed};
-ghost use Rattle.std.specs.Prelude.{◌≡◌, ◌&&◌};
+ghost use Rattle.witness.specs.Rows.{turned};
+ghost use Rattle.std.specs.Prelude.{◌≡◌, ℕ, ◌&&◌};
 
 use super::Routes;
 use crate::choose::lowest_of;
+use crate::layer::all_leading;
 use crate::row::{Row, shortest_row};
+use crate::steps::Steps;
 use crate::tables::gather;
 use bits::VertexSet;
 use model::{GRANT, TAKE, Vertex};
-use spans::SETS;
 
 impl Routes<'_> {
-    // The shortest take path from x to y. Of `room` nothing is said: it is written over at the next call.
-    pub fn path(&self, x: Vertex, y: Vertex, room: &mut [VertexSet; SETS]) -> Row
+    // The shortest take path from x to y.
+    pub fn path(&self, x: Vertex, y: Vertex) -> Row
         ensures value { result.items ≡ shortest_path (routed self.now) x y }
     {
-        shortest_row(
-            |p| self.graph.targets(p, TAKE),
-            self.links.takers_of_each(),
-            self.graph.size(),
-            x,
-            y,
-            room,
-        )
+        let steps = Steps::of(self.links.takers_of_each(), self.graph.size());
+        shortest_row(|p| self.graph.targets(p, TAKE), &steps, x, y)
+    }
+
+    // Bridges lead both ways, so that their table has from whom one leads, too.
+    fn over_bridges(&self) -> Steps<'_>
+        ensures steps { (p q : ℕ) → turned result.back.now p q ≡ bridge (routed self.now) p q }
+        ensures size { result.size ≡ (routed self.now).size }
+    {
+        Steps::of(&self.bridges, self.graph.size())
     }
 
     // The shortest row of bridges from p to q.
-    pub fn row(&self, p: Vertex, q: Vertex, room: &mut [VertexSet; SETS]) -> Row
+    pub fn row(&self, p: Vertex, q: Vertex) -> Row
         ensures value { result.items ≡ shortest_row_of (routed self.now).size (bridge (routed self.now)) p q }
     {
-        shortest_row(
-            |v| self.bridges[v as usize],
-            &self.bridges,
-            self.graph.size(),
-            p,
-            q,
-            room,
-        )
+        shortest_row(|v| self.bridges[v as usize], &self.over_bridges(), p, q)
+    }
+
+    // Who is connected with q.
+    pub fn island(&self, q: Vertex) -> VertexSet
+        ensures value { (p : ℕ) → holds result p ≡ connected (routed self.now) p q }
+    {
+        all_leading(&self.over_bridges(), q)
+    }
+
+    // Who spans initially to x.
+    pub fn initial(&self, x: Vertex) -> VertexSet
+        ensures value { (p : ℕ) → holds result p ≡ initial_span (routed self.now) p x }
+    {
+        self.paths.initial(x)
+    }
+
+    // Who spans terminally to t.
+    pub fn terminal(&self, t: Vertex) -> VertexSet
+        ensures value { (q : ℕ) → holds result q ≡ terminal_span (routed self.now) q t }
+    {
+        self.paths.terminal(t)
     }
 
     // Does a take path lead from x to y?

@@ -1,19 +1,9 @@
-use Rattle.std.proofs.Common.{vec_items, sym, ap, ◌∙◌}
-use Rattle.std.proofs.lemmas.Result.{err_from_is_err_and}
+use Rattle.std.proofs.Common.{vec_items, ap, ◌∙◌}
 use Rattle.graph.specs.Graphs.{state}
 use Rattle.graph.proofs.Sound.{well_formed-law}
 use Rattle.answers.specs.Lines.{lines_of}
 use Rattle.answers.proofs.Within.{all_decided}
 use Rattle.answers.proofs.ask.answer_lines.Goals as goal
-
-pub returns-in_err-asked : goal.returns-in_err-asked
-returns-in_err-asked c =
-    let p = err_from_is_err_and c.from_residual.result c.from_residual.ensures.1 in rw (p.1, p.2) c.in_err-asked.ensures
-
-pub returns-in_err-write_lines : goal.returns-in_err-write_lines
-returns-in_err-write_lines c =
-    let p = err_from_is_err_and c.from_residual-in_err-write_lines.result c.from_residual-in_err-write_lines.ensures.1 in
-    rw (p.1, p.2) tt
 
 pub returns : goal.returns
 returns c =

@@ -1,5 +1,5 @@
 use Rattle.std.proofs.Common.{◌++◌, get_or, take, sym, ap, ◌∙◌, ap₂}
-use Rattle.std.proofs.lemmas.List.{take_more, take_all}
+use Rattle.std.proofs.lemmas.List.{take_more}
 use Rattle.sharing.specs.Of.{answered}
 use Rattle.answers.specs.Lines.{line_of, lines_of}
 use Rattle.answers.proofs.Written.{lines_more}
@@ -17,6 +17,3 @@ loop-q-preserved c =
     c.in_ok-extend_from_slice.ensures.items ∙
     (ap₂ (λ a b. a ++ b) c.loop-q.invariant (c.line.ensures ∙ ap line_of c.can_share.ensures.value) ∙
     (sym (lines_more s (take c.loop-q.q-index qs) q) ∙ ap (lines_of s) (sym (take_more qs c.loop-q.q-index (record { holder = 0; right = 0; target = 0 }) c.loop-q-test.true))))
-
-pub returns : goal.returns
-returns c = c.loop-q.invariant ∙ ap (lines_of (answered c.args.sharing.now)) (take_all c.loop-q.q-index c.args.questions.now c.loop-q-test.false)

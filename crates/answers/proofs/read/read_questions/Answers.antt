@@ -1,23 +1,11 @@
-use Rattle.std.proofs.Common.{◌≡◌, ℕ, ◌-◌, length, Ok, Err, vec_items, vec_len, sym, refl, ap, ◌∙◌, ap₂, arith}
+use Rattle.std.proofs.Common.{◌-◌, length, Ok, Err, vec_items, vec_len, sym, ap, ◌∙◌, ap₂, arith}
 use Rattle.std.proofs.lemmas.Bool.{leb-true, leb-false}
 use Rattle.std.proofs.lemmas.Result.{err_from_is_err_and}
 use Rattle.codec.proofs.Steps.{read_in}
 use Rattle.codec.specs.Questions.{question_at}
 use Rattle.answers.specs.Asked.{questions_at}
-use Rattle.answers.proofs.Steps.{behind, behind_none, questions_done, question_broken, question_on}
+use Rattle.answers.proofs.Steps.{behind, questions_done, question_broken, question_on}
 use Rattle.answers.proofs.read.read_questions.Goals as goal
-
-pub loop-input-init : goal.loop-input-init
-loop-input-init c =
-    record {
-      same = refl;
-      many = omega (arith, c.new-questions.ensures.len);
-      left = ap₂ (λ qs n. behind qs (questions_at (length c.args.input.now.bytes.now - n) c.args.input.now.bytes.now c.args.size c.args.input.now.at)) c.new-questions.ensures.items c.new-questions.ensures.len ∙
-          (behind_none _ ∙ ap (λ m. questions_at m c.args.input.now.bytes.now c.args.size c.args.input.now.at) (whole (length c.args.input.now.bytes.now)));
-    }
-  where
-    whole : (n : ℕ) → n - 0 ≡ n
-    whole n = omega arith
 
 pub returns-in_err-question : goal.returns-in_err-question
 returns-in_err-question c =
@@ -26,11 +14,6 @@ returns-in_err-question c =
     rw (p.1, p.2)
     (sym (question_broken c.args.input.now.bytes.now c.args.size c.loop-input.input.at (vec_items c.loop-input.questions) (vec_len c.loop-input.questions) c.loop-input.invariant.left
     (omega (arith, leb-false _ _ (sym c.is_done.ensures ∙ c.loop-input-test.true), ap length c.loop-input.invariant.same)) c.loop-input.invariant.many _ read.1))
-
-pub returns-in_err-push : goal.returns-in_err-push
-returns-in_err-push c =
-    let p = err_from_is_err_and c.from_residual-in_err-push.result c.from_residual-in_err-push.ensures.1 in
-    rw (p.1, p.2) tt
 
 pub loop-input-preserved : goal.loop-input-preserved
 loop-input-preserved c =

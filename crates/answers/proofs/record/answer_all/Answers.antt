@@ -1,5 +1,5 @@
 use Rattle.std.proofs.Common.{◌++◌, get_or, take, sym, ap, ◌∙◌}
-use Rattle.std.proofs.lemmas.List.{take_more, take_all}
+use Rattle.std.proofs.lemmas.List.{take_more}
 use Rattle.witness.specs.Of.{routed}
 use Rattle.answers.specs.Lines.{line_of, lines_of, answer_to}
 use Rattle.answers.specs.Records.{record_of, records_of}
@@ -8,7 +8,7 @@ use Rattle.answers.proofs.record.answer_all.Goals as goal
 
 pub loop-question-init : goal.loop-question-init
 unfolding lines_of records_of
-loop-question-init c = (c.new.ensures.items, c.new-2.ensures.items)
+loop-question-init c = (c.new-answers.ensures.lines, c.new-answers.ensures.records)
 
 pub loop-question-preserved : goal.loop-question-preserved
 loop-question-preserved c =
@@ -20,9 +20,3 @@ loop-question-preserved c =
       c.in_ok-add.ensures.lines ∙ ap (λ t. t ++ line_of (answer_to s q)) c.loop-question.invariant.0 ∙ sym (lines_more s (take i qs) q) ∙ ap (lines_of s) more,
       c.in_ok-add.ensures.records ∙ ap (λ t. t ++ record_of s q) c.loop-question.invariant.1 ∙ sym (records_more s (take i qs) q) ∙ ap (records_of s) more,
     )
-
-pub returns : goal.returns
-returns c =
-    let s = routed c.args.routes.now in
-    let all = take_all c.loop-question.question-index c.args.questions.now c.loop-question-test.false in
-    (c.loop-question.invariant.0 ∙ ap (lines_of s) all, c.loop-question.invariant.1 ∙ ap (records_of s) all)

@@ -1,20 +1,10 @@
 use Rattle.std.proofs.Common.{vec_items, ap, ◌∙◌}
-use Rattle.std.proofs.lemmas.Result.{err_from_is_err_and}
 use Rattle.graph.specs.Graphs.{state}
 use Rattle.graph.proofs.Sound.{well_formed-law}
 use Rattle.answers.specs.Lines.{lines_of}
 use Rattle.answers.specs.Records.{DecidedSo, Shown, records_of}
 use Rattle.answers.proofs.Within.{each_inside, decided_so, shown}
 use Rattle.answers.proofs.record.answer_records.Goals as goal
-
-pub returns-in_err-asked : goal.returns-in_err-asked
-returns-in_err-asked c =
-    let p = err_from_is_err_and c.from_residual.result c.from_residual.ensures.1 in rw (p.1, p.2) c.in_err-asked.ensures
-
-pub returns-in_err-write_answers : goal.returns-in_err-write_answers
-returns-in_err-write_answers c =
-    let p = err_from_is_err_and c.from_residual-in_err-write_answers.result c.from_residual-in_err-write_answers.ensures.1 in
-    rw (p.1, p.2) tt
 
 pub returns : goal.returns
 returns c =

@@ -2,7 +2,6 @@ use Rattle.std.proofs.Common.{ltb, length, sym, ap, ◌∙◌, arith}
 use Rattle.std.proofs.lemmas.Result.{err_from_is_err_and}
 use Rattle.graph.specs.Graphs.{state}
 use Rattle.std.proofs.lemmas.Bool.{cond-true, cond-false, leb-true, leb-false, lt-ltb, le-ltb}
-use Rattle.codec.specs.declared.fault.Fault.TheVariants.{UnknownKind}
 use Rattle.answers.proofs.Steps.{no_book_alone, book_alone-law}
 use Rattle.answers.proofs.table.sharing_table.Goals as goal
 
@@ -18,11 +17,6 @@ returns-then-not-is_done c =
     (book_alone-law c.args.bytes.now (state c.in_ok-graph.graph) at c.in_ok-graph.ensures.value ∙
     cond-true (ltb at (length c.args.bytes.now)) _ _
     (lt-ltb _ _ (omega (arith, leb-false _ _ (sym c.is_done.ensures ∙ c.if-not-is_done.true), ap length c.in_ok-graph.ensures.rest))))
-
-pub returns-in_err-write_table : goal.returns-in_err-write_table
-returns-in_err-write_table c =
-    let p = err_from_is_err_and c.from_residual-in_err-write_table.result c.from_residual-in_err-write_table.ensures.1 in
-    rw (p.1, p.2) tt
 
 pub returns : goal.returns
 returns c = (

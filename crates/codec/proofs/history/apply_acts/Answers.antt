@@ -1,28 +1,19 @@
-use Rattle.std.proofs.Common.{◌≡◌, ◌<◌, ◌≤◌, suc, ◌+◌, ◌-◌, length, sym, ap, ◌∙◌, arith, rules}
-use Rattle.std.proofs.lemmas.Bool.{leb-true, leb-false, lt-ltb}
+use Rattle.std.proofs.Common.{◌<◌, ◌≤◌, ◌-◌, length, sym, ap, ◌∙◌, arith, rules}
+use Rattle.std.proofs.lemmas.Bool.{leb-true, leb-false}
 use Rattle.graph.specs.Graphs.{state}
-use Rattle.codec.specs.Replay.{acts_at}
-use Rattle.codec.proofs.Running.{acts_end}
+use Rattle.codec.proofs.Running.{acts_end, acts_turn}
 use Rattle.codec.proofs.history.apply_acts.Goals as goal
 
 pub returns-in_err-apply_act : goal.returns-in_err-apply_act
-unfolding acts_at
 returns-in_err-apply_act c =
-    let bs = c.args.acts.now.bytes.now in
-    let more : c.loop-acts.acts.at < length bs = omega (arith, leb-false _ _ (sym c.is_done.ensures ∙ c.loop-acts-test.true), ap length c.loop-acts.invariant.input) in
-    let test = lt-ltb c.loop-acts.acts.at (length bs) more in
-    let turn : length bs - c.loop-acts.count ≡ suc (length bs - (c.loop-acts.count + 1)) = omega (arith, c.loop-acts.invariant.many) in
-    let left = ap (λ m. acts_at m bs c.loop-acts.acts.at c.loop-acts.count (state c.loop-acts.graph)) turn in
+    let more : c.loop-acts.acts.at < length c.args.acts.now.bytes.now = omega (arith, leb-false _ _ (sym c.is_done.ensures ∙ c.loop-acts-test.true), ap length c.loop-acts.invariant.input) in
+    let turn = acts_turn c.args.acts.now.bytes.now c.loop-acts.acts.at c.loop-acts.count (state c.loop-acts.graph) more c.loop-acts.invariant.many in
     search rules
 
 pub loop-acts-preserved : goal.loop-acts-preserved
-unfolding acts_at
 loop-acts-preserved c =
-    let bs = c.args.acts.now.bytes.now in
-    let more : c.loop-acts.acts.at < length bs = omega (arith, leb-false _ _ (sym c.is_done.ensures ∙ c.loop-acts-test.true), ap length c.loop-acts.invariant.input) in
-    let test = lt-ltb c.loop-acts.acts.at (length bs) more in
-    let turn : length bs - c.loop-acts.count ≡ suc (length bs - (c.loop-acts.count + 1)) = omega (arith, c.loop-acts.invariant.many) in
-    let left = ap (λ m. acts_at m bs c.loop-acts.acts.at c.loop-acts.count (state c.loop-acts.graph)) turn in
+    let more : c.loop-acts.acts.at < length c.args.acts.now.bytes.now = omega (arith, leb-false _ _ (sym c.is_done.ensures ∙ c.loop-acts-test.true), ap length c.loop-acts.invariant.input) in
+    let turn = acts_turn c.args.acts.now.bytes.now c.loop-acts.acts.at c.loop-acts.count (state c.loop-acts.graph) more c.loop-acts.invariant.many in
     search rules
 
 pub returns : goal.returns

@@ -3,8 +3,8 @@ use Rattle.std.proofs.lemmas.Result.{err_from_is_err_and}
 use Rattle.codec.specs.Kinds.{kind_number}
 use Rattle.codec.specs.Reading.{byte_at}
 use Rattle.codec.specs.declared.kind.Kind.TheVariants.{Book}
-use Rattle.codec.proofs.Narrow.{few, first_byte}
-use Rattle.codec.proofs.KindNumbers.{no_kind, no_kind_in, not_kind}
+use Rattle.codec.proofs.BookBytes.{few, first_byte}
+use Rattle.codec.proofs.Inverted.{no_kind, no_kind_in, not_kind}
 use Rattle.codec.proofs.question.read_narrow_book.Goals as goal
 
 pub returns-in_err-kind-clause-value : goal.returns-in_err-kind-clause-value

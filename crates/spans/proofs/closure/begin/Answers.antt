@@ -1,21 +1,10 @@
 use Rattle.std.proofs.Common.{◌*◌, arith}
 use Rattle.bits.specs.Rows.{cell}
 use Rattle.bits.specs.Sets.{holds}
-use Rattle.bits.proofs.Cell.{rows_apart}
 use Rattle.graph.specs.Graphs.{state}
 use Rattle.graph.proofs.Sound.{target_below}
 use Rattle.spans.proofs.Closing.{begun_more, begun_all}
 use Rattle.spans.proofs.closure.begin.Goals as goal
-
-pub row_add-requires : goal.row_add-requires
-row_add-requires g c =
-    let fit = rows_apart c.loop-x.x (state c.args.graph.now).size g.row.W (omega (arith, c.size-x-end.ensures.value)) in
-    (omega (arith, c.requires), c.requires.1.1)
-
-pub row_insert-requires : goal.row_insert-requires
-row_insert-requires g c =
-    let fit = rows_apart c.loop-x.x (state c.args.graph.now).size g.row.W (omega (arith, c.size-x-end.ensures.value)) in
-    (omega (arith, c.requires), omega (arith, c.requires, c.size-x-end.ensures.value))
 
 pub loop-x-preserved : goal.loop-x-preserved
 loop-x-preserved g c =

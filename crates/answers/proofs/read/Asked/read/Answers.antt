@@ -1,7 +1,6 @@
-use Rattle.std.proofs.Common.{◌≡◌, length, Ok, vec_items, sym, ap, ◌∙◌}
+use Rattle.std.proofs.Common.{◌≡◌, length, Ok, vec_items, sym}
 use Rattle.std.proofs.lemmas.Result.{err_from_is_err_and}
 use Rattle.graph.specs.Graphs.{state}
-use Rattle.answers.specs.AskErrors.{IsRefusedSo}
 use Rattle.answers.specs.Asked.{questions_at}
 use Rattle.answers.proofs.Steps.{no_book, book_asked, refused_asked}
 use Rattle.answers.proofs.Within.{questions_inside}

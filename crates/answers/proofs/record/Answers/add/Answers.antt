@@ -1,4 +1,4 @@
-use Rattle.std.proofs.Common.{◌≡◌, ℕ, ◌≤◌, Bool, ◌++◌, length, drop, vec_items, sym, ap, ◌∙◌, subst, arith, rules}
+use Rattle.std.proofs.Common.{◌≡◌, ℕ, Bool, ◌++◌, drop, vec_items, sym, ap, ◌∙◌, subst, arith}
 use mathlib.Core.Path.{fun_ext}
 use Rattle.codec.specs.Writing.{Appended}
 use Rattle.model.specs.Bounded.{only}
@@ -10,11 +10,6 @@ use Rattle.answers.specs.Lines.{answer_to, line_of}
 use Rattle.answers.specs.Records.{no_bytes, record_of}
 use Rattle.answers.proofs.Written.{extended_once, kept_so, yes_line, yes_record, no_record, front_of}
 use Rattle.answers.proofs.record.Answers.add.Goals as goal
-
-pub slice_bounds-extend_from_slice-end : goal.slice_bounds-extend_from_slice-end
-slice_bounds-extend_from_slice-end c =
-    let h : c.in-Ok.n ≤ length c.write_witness.new.out = omega (arith, c.in-Ok.ensures.value.room, c.write_witness.auto.out) in
-    search rules
 
 pub returns-in_ok-extend_from_slice-in-Ok : goal.returns-in_ok-extend_from_slice-in-Ok
 returns-in_ok-extend_from_slice-in-Ok c =

@@ -11,8 +11,8 @@ pub loop-entries-init : goal.loop-entries-init
 loop-entries-init c =
     let g = c.args.self.now.graph in
     searching_none (tracked c.args.self.now) (well_formed-law g) (few_vertices g) c.args.x (holds c.empty-out.result) (holds c.givers-entries.result)
-    (holds c.insert.new.self) c.empty-out.ensures
-    (λ p. let one = c.insert.ensures p in let none = c.empty-holder.ensures p in grind (arith, nat_tests)) c.givers-entries.ensures.value
+    (holds c.only.result) c.empty-out.ensures
+    (λ p. let one = c.only.ensures p in let x = c.from.ensures in let fits = c.ranges.x.fits in grind (arith, nat_tests)) c.givers-entries.ensures.value
 
 pub returns-then-is_empty : goal.returns-then-is_empty
 returns-then-is_empty c =

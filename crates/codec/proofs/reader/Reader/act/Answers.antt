@@ -1,7 +1,7 @@
 use Rattle.std.proofs.Common.{◌∙◌}
 use Rattle.std.proofs.lemmas.Result.{err_from_is_err_and}
 use Rattle.codec.specs.declared.kind.Kind.TheVariants.{Take, Grant, Create, Remove}
-use Rattle.codec.proofs.KindNumbers.{no_kind, not_kind}
+use Rattle.codec.proofs.Inverted.{no_kind, not_kind}
 use Rattle.codec.proofs.reader.Reader.act.Goals as goal
 
 pub returns-in_err-kind-clause-value : goal.returns-in_err-kind-clause-value

@@ -1,5 +1,5 @@
 use Rattle.std.proofs.Common.{sym}
-use Rattle.codec.proofs.Subjects.{set_in}
+use Rattle.codec.proofs.SetBytes.{set_in}
 use Rattle.codec.proofs.reader.Reader.set_bytes.Goals as goal
 
 pub slice_bounds-result-end : goal.slice_bounds-result-end

@@ -1,8 +1,7 @@
-use Rattle.std.proofs.Common.{◌≡◌, ℕ, ◌+◌, ◌/◌, ◌%◌, ◌<◌, Bool, ◌&&◌, ◌||◌, T, eqb, ltb, sym, ap, ◌∙◌, subst, ap₂, inl, inr, arith}
+use Rattle.std.proofs.Common.{◌≡◌, ℕ, ◌+◌, ◌*◌, ◌/◌, ◌%◌, ◌<◌, Bool, ◌&&◌, ◌||◌, T, eqb, ltb, sym, ap, ◌∙◌, subst, ap₂, inl, inr, arith}
 use Rattle.std.proofs.lemmas.Bool.{cases_eq}
 use Rattle.std.proofs.lemmas.Bool.Decides.{nat_tests}
 use Rattle.bits.specs.Sets.{among}
-use Rattle.bits.proofs.Holds.{below_fits}
 use Rattle.graph.proofs.Sound.{target_below}
 use Rattle.sharing.specs.Filling.{about, cells}
 use Rattle.sharing.specs.Table.{has_row}
@@ -18,7 +17,7 @@ share-requires g c = (
   ),
 )
 
-step : (k r y x n : ℕ) (w c t e h : Bool) → x < n → c ≡ (w || ((ltb k r && eqb y x) && h)) → e ≡ (eqb y x && ltb y n) → (k ≡ r → y ≡ x → t ≡ h) → (c || ((eqb k r && t) && e)) ≡ (w || ((ltb k (r + 1) && eqb y x) && h))
+step : (k r y x n : ℕ) (w c t e h : Bool) → x < n → c ≡ (w || ((ltb k r && eqb y x) && h)) → e ≡ (ltb y n && eqb y x) → (k ≡ r → y ≡ x → t ≡ h) → (c || ((eqb k r && t) && e)) ≡ (w || ((ltb k (r + 1) && eqb y x) && h))
 step k r y x n w c t e h l p q f =
     elim (cases_eq k r) [
       | inl d ↦
@@ -36,7 +35,7 @@ loop-r-preserved g c =
     let s = about g.row.W t in
     let now = c.loop-r.self in
     becomes_then g.row.W t now _ c.loop-r.invariant c.share.new.self _ _ c.share.ensures (λ i y.
-    step (i % 8) c.loop-r.r y c.args.x c.size.result (cells g.row.W t i y) (cells g.row.W now i y) (among g.row.W c.targets-targets.result (i / 8)) (among g.row.W c.pick-one.result y) (has_row s i y)
-    (omega (arith, c.size.ensures.value)) (c.loop-r.invariant.cells i y)
-    (c.pick-one.ensures y ∙ ap₂ (λ v b. eqb y v && b) c.from-2.ensures (below_fits g.row.W c.from.result c.below-every.result (omega (arith, t.wide, c.from.ensures, c.size.ensures.value)) c.below-every.ensures y ∙ ap (ltb y) c.from.ensures))
+    step (i % 8) c.loop-r.r y c.args.x (64 * g.row.W) (cells g.row.W t i y) (cells g.row.W now i y) (among g.row.W c.targets-targets.result (i / 8)) (among g.row.W c.only-one.result y) (has_row s i y)
+    (omega (arith, t.wide)) (c.loop-r.invariant.cells i y)
+    (c.only-one.ensures y ∙ ap (λ v. ltb y (64 * g.row.W) && eqb y v) c.from.ensures)
     (λ d z. c.targets-targets.ensures (i / 8) ∙ ap (λ u. u.has c.args.x c.loop-r.r (i / 8)) (same_state g.row.W t now c.loop-r.invariant.graph) ∙ ap₂ (λ a b. s.has a b (i / 8)) (sym z) (sym d)))

@@ -1,13 +1,10 @@
-use Rattle.std.proofs.Common.{ℕ, ◌+◌, ◌*◌, ◌<◌, T, ◌∙◌, subst, inl, inr, arith}
+use Rattle.std.proofs.Common.{ℕ, ◌+◌, ◌*◌, ◌<◌, T, subst, inl, inr, arith}
 use Rattle.std.proofs.lemmas.Bool.{cases_lt}
-use Rattle.bits.specs.Sets.{among}
 use Rattle.bits.proofs.Bit.{bit_past}
 use Rattle.model.specs.Bit.{bit}
 use Rattle.model.proofs.Tests.{from_false}
-use Rattle.sharing.specs.Filling.{about, cells}
+use Rattle.sharing.specs.Filling.{about}
 use Rattle.sharing.proofs.Filling.{same_size}
-use Rattle.bits.proofs.Holds.{among_past}
-use Rattle.sharing.proofs.Gathered.{words_more, words_all}
 use Rattle.sharing.proofs.table.Table.share.Goals as goal
 
 pub share_word-requires : goal.share_word-requires
@@ -20,19 +17,3 @@ share_word-requires g c =
       | inr l ↦ absurd (from_false _ (bit_past 64 c.word.result j (omega arith) l) h)
     ] in
     (omega arith, (omega (arith, t.narrow), ((omega (arith, t.narrow), c.requires.bound), word)))
-
-pub loop-c-preserved : goal.loop-c-preserved
-loop-c-preserved g c = (
-  c.share_word.ensures.graph ∙ c.loop-c.invariant.0,
-  words_more c.args.r (among g.row.W c.args.targets.now) (among g.row.W c.args.who.now) (cells g.row.W c.args.self.now) (cells g.row.W c.loop-c.self) (cells g.row.W c.share_word.new.self) c.loop-c.c c.word.result
-      c.word.ensures c.share_word.ensures.cells c.loop-c.invariant.1,
-)
-
-pub returns : goal.returns
-returns g c =
-    record {
-      graph = c.loop-c.invariant.0;
-      cells =
-          words_all c.args.r (among g.row.W c.args.targets.now) (among g.row.W c.args.who.now) (cells g.row.W c.args.self.now) (cells g.row.W c.loop-c.self) c.loop-c.c
-          (λ y h. among_past g.row.W c.args.targets.now y (omega arith)) c.loop-c.invariant.1;
-    }

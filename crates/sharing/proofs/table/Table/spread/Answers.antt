@@ -1,4 +1,4 @@
-use Rattle.std.proofs.Common.{Bool, List, get_or, length, ◌≡◌, ℕ, ◌*◌, ◌<◌, ◌≤◌, ◌||◌, T, ap, ◌∙◌, subst, arith}
+use Rattle.std.proofs.Common.{Bool, List, get_or, length, ◌≡◌, ℕ, ◌<◌, ◌||◌, T, refl, ap, ◌∙◌, subst, arith}
 use Rattle.bits.specs.Sets.{among}
 use Rattle.bits.specs.declared.set.BitSet.{BitSet}
 use Rattle.graph.proofs.Sound.{well_formed-law}
@@ -27,9 +27,9 @@ share-requires g c =
       (
         omega (arith, t.narrow),
         (
-          c.loop-r-test.true,
+          omega arith,
           λ y h.
-              let k = below y (subst T (gathered g.row.W c.from-in-loop-r.result c.loop-r.r c.gather-held.result _ (held_by s out) (omega (arith, c.from-in-loop-r.ensures)) c.from-in-loop-r.ensures c.gather-held.ensures y) h) in
+              let k = below y (subst T (gathered g.row.W c.loop-r.r c.loop-r.r c.gather-held.result _ (held_by s out) (omega arith) refl c.gather-held.ensures y) h) in
               omega (arith, size),
         ),
       ),
@@ -42,7 +42,7 @@ loop-r-preserved g c =
     let out = among g.row.W c.args.out.now in (
       c.share.ensures.graph ∙ c.loop-r.invariant.0,
       brought_more s (among g.row.W c.args.inner.now) out (cells g.row.W t) (cells g.row.W c.loop-r.self)
-          (cells g.row.W c.share.new.self) (among g.row.W c.add.new.self) (among g.row.W (get_or c.gather-held.result c.from-in-loop-r.result c.index-held-from-in-loop-r.result)) c.loop-r.r
+          (cells g.row.W c.share.new.self) (among g.row.W c.add.new.self) (among g.row.W (get_or c.gather-held.result c.loop-r.r _)) c.loop-r.r
           (λ x. c.add.ensures x ∙ ap (λ b. among g.row.W c.args.inner.now x || b) (gathered g.row.W c.from.result grant_right c.gather-held.result _ (held_by s out) (omega (arith, c.from.ensures)) c.from.ensures c.gather-held.ensures x))
-          (gathered g.row.W c.from-in-loop-r.result c.loop-r.r c.gather-held.result _ (held_by s out) (omega (arith, c.from-in-loop-r.ensures)) c.from-in-loop-r.ensures c.gather-held.ensures) c.share.ensures.cells c.loop-r.invariant.1,
+          (gathered g.row.W c.loop-r.r c.loop-r.r c.gather-held.result _ (held_by s out) (omega arith) refl c.gather-held.ensures) c.share.ensures.cells c.loop-r.invariant.1,
     )

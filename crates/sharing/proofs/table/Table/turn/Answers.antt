@@ -5,7 +5,8 @@ use Rattle.bits.specs.Rows.{cell}
 use Rattle.sharing.specs.Filling.{about}
 use Rattle.sharing.specs.Table.{has_row}
 use Rattle.sharing.proofs.Holding.{past_target}
-use Rattle.sharing.proofs.Zeros.{no_cells, member_kept, cleared_row}
+use Rattle.spans.proofs.Wide.{cell_zeros}
+use Rattle.sharing.proofs.Zeros.{member_kept, cleared_row}
 use Rattle.sharing.proofs.table.Table.turn.Goals as goal
 
 -- Rows past the last vertex are empty, as they are to be.
@@ -23,7 +24,7 @@ returns-then-few g c =
       graph = c.enter_all.ensures.graph;
       cells = λ i x.
           c.enter_all.ensures.cells i x
-          ∙ ap (λ b. b || has_row s i x) (ap (λ rows. cell rows g.row.W i x) (c.fill.ensures.after (λ y e. e)) ∙ no_cells _ g.row.W i x);
+          ∙ ap (λ b. b || has_row s i x) (ap (λ rows. cell rows g.row.W i x) (c.fill.ensures.after (λ y e. e)) ∙ cell_zeros _ g.row.W i x);
     }
 
 pub returns-else-few : goal.returns-else-few

@@ -11,26 +11,26 @@ worked_out-requires c =
     let few = words_few (state c.args.graph.now).size (omega (arith, c.size.ensures.value)) in
     (subst (λ w. 8 * (state c.args.graph.now).size * w ≤ length c.args.rows.now) few c.requires, omega (arith, c.size.ensures.value), omega arith)
 
-pub worked_out-requires-else-size-le128 : goal.worked_out-requires-else-size-le128
+pub worked_out-requires-else-size-le-NARROW : goal.worked_out-requires-else-size-le-NARROW
 unfolding table_words
-worked_out-requires-else-size-le128 c =
+worked_out-requires-else-size-le-NARROW c =
     let many = words_many (state c.args.graph.now).size (omega (arith, c.size.ensures.value)) in
     (subst (λ w. 8 * (state c.args.graph.now).size * w ≤ length c.args.rows.now) many c.requires, omega (arith, c.size.ensures.value), omega arith)
 
-pub returns-then-size-le128 : goal.returns-then-size-le128
+pub returns-then-size-le-NARROW : goal.returns-then-size-le-NARROW
 unfolding table_words
-returns-then-size-le128 c =
+returns-then-size-le-NARROW c =
     let few = words_few (state c.args.graph.now).size (omega (arith, c.size.ensures.value)) in
     record {
       cells = λ i x. ap (λ w. cell c.worked_out.result.now w i x) few ∙ c.worked_out.ensures.cells i x;
       size = subst (λ w. 8 * (state c.args.graph.now).size * w ≤ length c.worked_out.result.now) (sym few) c.worked_out.ensures.size;
     }
 
-pub returns-else-size-le128 : goal.returns-else-size-le128
+pub returns-else-size-le-NARROW : goal.returns-else-size-le-NARROW
 unfolding table_words
-returns-else-size-le128 c =
+returns-else-size-le-NARROW c =
     let many = words_many (state c.args.graph.now).size (omega (arith, c.size.ensures.value)) in
     record {
-      cells = λ i x. ap (λ w. cell c.worked_out-else-size-le128.result.now w i x) many ∙ c.worked_out-else-size-le128.ensures.cells i x;
-      size = subst (λ w. 8 * (state c.args.graph.now).size * w ≤ length c.worked_out-else-size-le128.result.now) (sym many) c.worked_out-else-size-le128.ensures.size;
+      cells = λ i x. ap (λ w. cell c.worked_out-else-size-le-NARROW.result.now w i x) many ∙ c.worked_out-else-size-le-NARROW.ensures.cells i x;
+      size = subst (λ w. 8 * (state c.args.graph.now).size * w ≤ length c.worked_out-else-size-le-NARROW.result.now) (sym many) c.worked_out-else-size-le-NARROW.ensures.size;
     }

@@ -1,25 +1,26 @@
-use Rattle.std.proofs.Common.{◌&&◌, ltb, ap, ◌∙◌, ap₂, arith, rules}
-use Rattle.bits.specs.Rows.{cell}
+use Rattle.std.proofs.Common.{◌≡◌, ℕ, ap, ◌∙◌, rules, arith}
 use Rattle.graph.specs.Graphs.{state}
-use Rattle.spans.specs.Paths.{row_words}
-use Rattle.spans.proofs.Wide.{words_most, rows_within}
-use Rattle.spans.proofs.Spanning.{path_vertex}
+use Rattle.graph.specs.Table.{in_row}
+use Rattle.spans.specs.Paths.{path_from}
+use Rattle.spans.proofs.Entered.{all_below_agree}
+use Rattle.spans.proofs.Spanning.{path_below}
 use Rattle.spans.proofs.paths.TakePaths.of.Goals as goal
-
-pub turn-back-requires : goal.turn-back-requires
-turn-back-requires c =
-    let fit = rows_within c.size-n.result c.width.result c.width.ensures (omega arith) in
-    let most = words_most c.size-n.result in
-    (search rules, omega (arith, c.width.ensures))
+use Rattle.spans.proofs.paths.TakePaths.of.Goals.{then-n-le-NARROW, else-n-le-NARROW}
 
 pub invariant_of-result : goal.invariant_of-result
+unfolding in_row
 invariant_of-result c =
     let s = state c.args.graph.now in
+    let led : (x y : ℕ) → in_row c.if-n-le-NARROW.rows x y ≡ path_from s x y =
+    λ x y.
+    elim c.if-n-le-NARROW.branch [
+      | then-n-le-NARROW w ↦ ap (λ rows. in_row rows x y) w.rows-is ∙ w.rows_of-rows.ensures x y
+      | else-n-le-NARROW w ↦ ap (λ rows. in_row rows x y) w.rows-is ∙ w.rows_of-rows-else-n-le-NARROW.ensures x y
+    ] in
     record {
-      led = c.rows_of-rows.ensures;
-      reached = λ y x.
-          c.turn-back.ensures y x
-          ∙ ap₂ (λ n w. ltb x n && cell c.rows_of-rows.result w x y) c.size-n.ensures.value (c.width.ensures ∙ ap row_words c.size-n.ensures.value)
-          ∙ ap (λ b. ltb x s.size && b) (c.rows_of-rows.ensures x y)
-          ∙ path_vertex s x y;
+      led = led;
+      reached = λ y.
+          all_below_agree c.size-n.result (in_row c.turned-back.result y) (λ x. path_from s x y) (c.turned-back.ensures.below y)
+          (λ x t. let l = path_below s x y t in omega (arith, c.size-n.ensures.value))
+          (λ x h. let row = c.turned-back.ensures.rows x h in row.2 y ∙ search (rules, row.1, led x y));
     }

@@ -1,6 +1,7 @@
+use Rattle.std.proofs.Common.{ap, ◌∙◌}
 use Rattle.graph.specs.Table.{in_row}
 use Rattle.spans.proofs.paths.TakePaths.to.Goals as goal
 
 pub returns : goal.returns
 unfolding in_row
-returns c = record { value = c.args.self.now.reached c.args.y }
+returns c = record { value = λ k. ap (λ y. in_row c.args.self.now.back y k) c.from.ensures ∙ c.args.self.now.reached c.args.y k }

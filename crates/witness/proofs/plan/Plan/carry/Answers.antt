@@ -1,10 +1,10 @@
-use Rattle.std.proofs.Common.{ℕ, List, length, refl, ap, ◌∙◌, subst}
+use Rattle.std.proofs.Common.{ℕ, List, length, ap, ◌∙◌, subst}
 use Rattle.model.specs.State.{State}
 use Rattle.model.specs.Spans.{bridge}
 use Rattle.model.specs.Exact.{handed_to, over_row, shortest_row_of, taking_to}
 use Rattle.witness.specs.Plans.{Goes, Halted}
 use Rattle.witness.proofs.Crossing.{grows_row, grows_handed}
-use Rattle.witness.proofs.Going.{grows_not, halted_on, relaid, stopped, stops}
+use Rattle.witness.proofs.Going.{grows_not, halted_on, stopped, stops}
 use Rattle.witness.proofs.plan.Plan.carry.Goals as goal
 
 pub returns-in_err-take_to : goal.returns-in_err-take_to
@@ -31,7 +31,7 @@ returns-in_err-over_row c =
           (subst (λ (row : List ℕ). Halted b (length was) (handed_to b e.first q.holder q.right q.target (over_row b e.last row q.right q.target w1)))
           (c.deref.ensures.0 ∙ c.row-row.ensures.value ∙ ap (λ (z : State). shortest_row_of z.size (bridge z) e.last e.first) mid.about)
           (halted_on b (length was) w2 _ (grows_handed b w2 w2 e.first q.holder q.right q.target (grows_not w2))
-          (c.in_err-over_row.ensures.goes b w1 was (relaid b w1 c.take_to.new.self was c.take_to.new.out mid _ refl refl refl refl))));
+          (c.in_err-over_row.ensures.goes b w1 was mid)));
     }
 
 pub returns : goal.returns
@@ -45,5 +45,5 @@ returns c =
           subst (λ (row : List ℕ). Goes b (handed_to b e.first q.holder q.right q.target (over_row b e.last row q.right q.target w1)) c.hand_to.result c.hand_to.new.self was c.hand_to.new.out)
           (c.deref.ensures.0 ∙ c.row-row.ensures.value ∙ ap (λ (z : State). shortest_row_of z.size (bridge z) e.last e.first) mid.about)
           (c.hand_to.ensures.goes b _ was
-          (c.in_ok-over_row.ensures.goes b w1 was (relaid b w1 c.take_to.new.self was c.take_to.new.out mid _ refl refl refl refl)));
+          (c.in_ok-over_row.ensures.goes b w1 was mid));
     }

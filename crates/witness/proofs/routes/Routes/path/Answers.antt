@@ -5,8 +5,8 @@ use Rattle.witness.proofs.Relation.{table_fits}
 use Rattle.graph.proofs.Sound.{well_formed-law}
 use Rattle.witness.proofs.routes.Routes.path.Goals as goal
 
-pub shortest_row-requires-clause-fits : goal.shortest_row-requires-clause-fits
-shortest_row-requires-clause-fits c =
+pub of-steps-requires : goal.of-steps-requires
+of-steps-requires c =
     let r = c.args.self.now in
     table_fits c.size.result (routed r).size c.size.ensures.value c.takers_of_each.result.now (can_take (routed r))
     (λ x z. c.takers_of_each.ensures.value z x ∙ ap (λ s. can_take s x z) r.same_links)
