@@ -6,6 +6,9 @@ use crate::trials::ask;
 use reference::book::write_book;
 use reference::graph::{Graph, Right, Vertex, GRANT, TAKE};
 use reference::question::Question;
+use reference::rules::Rule;
+use reference::spans::Spans;
+use reference::witness::witness;
 
 struct Picked {
     size: usize,
@@ -15,7 +18,7 @@ struct Picked {
     asked: (Right, Vertex),
 }
 
-const BOOKS: [Picked; 10] = [
+const BOOKS: [Picked; 12] = [
     // The path to 4 is chosen before anything is taken: 0 goes over 2 and 3, though it then has a shorter one over 6.
     Picked {
         size: 8,
@@ -97,6 +100,20 @@ const BOOKS: [Picked; 10] = [
         rights: &[(0, TAKE, 1), (1, TAKE, 2), (2, TAKE, 0), (1, TAKE, 1), (3, 2, 3), (1, GRANT, 3), (2, TAKE, 3)],
         asked: (2, 3),
     },
+    // 2 asks, and 0, which has grant to 2, is lower: the row from 3 to 0 goes through 2 itself.
+    Picked {
+        size: 5,
+        subjects: &[0, 2, 3],
+        rights: &[(0, GRANT, 2), (2, TAKE, 3), (3, 2, 4)],
+        asked: (2, 4),
+    },
+    // 0 and 1 have the right: the row from 0 to 2 goes through 1.
+    Picked {
+        size: 4,
+        subjects: &[0, 1, 2],
+        rights: &[(0, 2, 3), (1, 2, 3), (1, TAKE, 0), (2, TAKE, 1)],
+        asked: (2, 3),
+    },
     // Two equally short paths to 5, and two rows of bridges that read otherwise from their other end.
     Picked {
         size: 8,
@@ -116,7 +133,21 @@ const BOOKS: [Picked; 10] = [
     },
 ];
 
-/// Everybody is asked about, one book after the other.
+/// The plan over a chain of 128 subjects, each with grant to the next, has the numbers that were worked out by hand: 508 acts, four
+/// for each of 127 bridges, which create 127 objects, the last of them numbered 254.
+fn ask_chain(runner: &mut Runner, random: &mut Random) {
+    let mut graph = Graph::new(vec![true; 128]);
+    for v in 1..128 {
+        graph.give(v - 1, GRANT, v);
+    }
+    graph.give(127, 2, 0);
+    let rules = witness(&Spans::of(&graph), 0, 2, 0).expect("the right comes along the chain");
+    let created = rules.iter().filter(|rule| matches!(rule, Rule::Create { .. })).count();
+    assert_eq!((rules.len(), created, graph.size() + created - 1), (508, 127, 254));
+    ask(runner, random, "plans picked by hand", &write_book(&graph), &[Question { x: 0, right: 2, y: 0 }]);
+}
+
+/// Everybody is asked about, one book after the other; and then the chain's end.
 pub fn ask_all(runner: &mut Runner, random: &mut Random) {
     for picked in &BOOKS {
         let mut graph = Graph::new((0..picked.size).map(|v| picked.subjects.contains(&v)).collect());
@@ -127,4 +158,5 @@ pub fn ask_all(runner: &mut Runner, random: &mut Random) {
         let questions: Vec<Question> = graph.vertices().map(|x| Question { x, right, y }).collect();
         ask(runner, random, "plans picked by hand", &write_book(&graph), &questions);
     }
+    ask_chain(runner, random);
 }

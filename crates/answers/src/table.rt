@@ -53,6 +53,7 @@ fn write_counts(sharing: &Sharing, y: Vertex, text: &mut String) -> Result<(), A
     Ok(())
 }
 
+// `last` of its line, which then ends.
 fn write_count(n: usize, last: bool, text: &mut String) -> Result<(), AllocError>
     ensures { Appended result (string_bytes text.old) (string_bytes text.new) (count_of n last) }
 {

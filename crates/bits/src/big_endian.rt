@@ -1,5 +1,5 @@
 // Sets of numbers as bytes, the highest first: number k is bit k % 8 of the byte that k / 8 bytes follow.
-// Byte by byte, since there may be any number of them up to 32, and no whole words.
+// Byte by byte: what is read may have any number of bytes up to 32, and writing goes the same way, so that one law of a byte serves both.
 
 ghost use Rattle.std.specs.Prelude.{◌≡◌, ℕ, ◌*◌, ◌/◌, ◌%◌, ◌<◌, ◌≤◌, Bool, ◌&&◌, ◌||◌, length, ◌==◌};
 ghost use Rattle.bits.specs.Sets.{Same, byte_of, in_bytes, member, set_bytes};

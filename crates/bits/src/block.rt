@@ -1,6 +1,6 @@
 // Blocks of 64 rows of W words: each 64 columns turned round, so that rows become columns.
-// Rows are taken by their index, since the two that exchange lie J apart in one lent slice. How many strips there are and the mask follow from J,
-// but a constant can't be worked out from another in this language, so that they are handed on.
+// Rows are taken by their index, since the two that exchange lie J apart in one slice, and that it is lent, of at least so many words, is a rule of the project.
+// How many strips there are and the mask follow from J, but the masks of a transposition are plainer written out than worked out.
 
 ghost use Rattle.std.specs.Prelude.{◌≡◌, ℕ, ◌+◌, ◌*◌, ◌/◌, ◌%◌, ◌<◌, ◌≤◌, ◌&&◌, ◌||◌, length, if◌then◌else◌, nat_eq, nat_le, nat_lt};
 ghost use Rattle.bits.specs.Blocks.{Mask, exchanged, swapped};

@@ -99,7 +99,7 @@ impl<const W: usize> BitSet<W> {
         words::is_empty(&self.words())
     }
 
-    // The lowest number.
+    // The lowest number. A byte numbers what four words have, so here and where this is called W is at most 4; other sets may be wider.
     pub fn lowest(&self) -> Option<u8>
         requires { W ≤ 4 }
         ensures { MatchOption result

@@ -28,6 +28,7 @@ fn run(rt: &HostRuntime) -> anyhow::Result<()> {
     }
 }
 
+// That an error of the input is told so stands in `could` too: console, which both stand on, knows nothing of inputs.
 fn print_after(rt: &HostRuntime, files: &[String]) -> anyhow::Result<()> {
     let input = console::read_input(rt, files)?;
     match replay(rt.alloc(), &input) {

@@ -19,7 +19,7 @@ struct Transfer {
     to: Vertex,
 }
 
-// The two differ in the names of the fields alone, which are the point of the two structs.
+// One function for both would take a constructor for each rule, and be no plainer.
 impl Transfer {
     fn take(self) -> Rule
         ensures { result ≡ taken self }

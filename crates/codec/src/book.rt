@@ -32,7 +32,7 @@ impl Layout {
     }
 }
 
-// A right to a vertex, as a book lists them: in rising order, first by the right. It is the format's own: what plans say of such pairs is in their crate.
+// A right to a vertex, as a book lists them: in rising order, first by the right. Plans have such a pair too, without the order: one type for both would have to be handed on by two crates, and be no plainer.
 #[derive(Clone, Copy)]
 struct Held {
     right: Right,

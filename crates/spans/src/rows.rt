@@ -1,5 +1,5 @@
-// How wide rows are. Who works in rows of W words asks for the size or the width and calls one of the two instances: a closure can't be generic over a constant,
-// so that the choice can't be made here for all.
+// How wide rows are. Who works in rows of W words asks for the size and calls one of two instances, in three places: a closure can't be generic over a constant,
+// and a trait for what is then done would be no plainer than the three ifs.
 ghost use Rattle.spans.specs.Paths.{row_words};
 ghost use Rattle.std.specs.Prelude.{◌≡◌};
 

@@ -16,14 +16,14 @@ pub struct Plan<'a> {
     routes: &'a Routes<'a>,
     // The graph after the acts that are written.
     graph: Graph,
-    // How many bytes are written, and how many acts. The slice that they are written to is no field, but is lent on from call to call:
+    // How many bytes are written, and how many acts: counted where one is done, since plans are made and not walked. The slice that they are written to is no field, but is lent on from call to call:
     // a rule of the project has the free end of a plan lent on to be written.
     pub(crate) used: usize,
     pub(crate) acts: usize,
     ghost each: { acts ≤ used },
 }
 
-// A right to a vertex.
+// A right to a vertex, which is carried along: a parameter and no field, since each step may carry another. Books have such a pair of their own (codec).
 #[derive(Clone, Copy)]
 pub struct Held {
     right: Right,

@@ -15,7 +15,7 @@ use spans::{Links, TakePaths};
 use std::array;
 
 // What the rows of the table have that belong to one of the set.
-// A union over a set is a loop at its place: a function that takes what is united as a closure would be no shorter.
+// A union over a set is a `for` or a `fold` at its place: a function that takes what is united as a closure would be no shorter.
 pub fn gather(table: &[VertexSet; NUMBERS], set: &VertexSet) -> VertexSet
     ensures { (k : ℕ) → holds result k ≡ some_below 256 (λ u. holds set.now u && in_row table.now u k) }
 {

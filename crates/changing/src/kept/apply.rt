@@ -50,7 +50,7 @@ impl ChangingGraph {
         match rule {
             Rule::Take(t) => t.right == TAKE && !self.graph.has(t.who, TAKE, t.to),
             Rule::Grant(g) => g.right == TAKE && !self.graph.has(g.into, TAKE, g.to),
-            // A shift and a mask, as in `Graph::apply`: a method of the model's `Create` would be no plainer.
+            // A shift and a mask, as in `Graph::give_all`: a method of `Create`, with a contract, would be no plainer.
             Rule::Create(c) => c.rights >> TAKE & 1 == 1,
             Rule::Remove(d) => d.right == TAKE && self.graph.has(d.who, TAKE, d.to),
         }

@@ -1,5 +1,5 @@
 // Where take paths lead to from those who can come to give something to a vertex: found by the rows, round by round.
-// A union over a set is a loop at its place: a function that takes what is united as a closure would be no shorter.
+// A union over a set is a `for` or a `fold` at its place: a function that takes what is united as a closure would be no shorter.
 ghost use Rattle.std.specs.Prelude.{◌≡◌, ℕ, ◌&&◌};
 ghost use Rattle.bits.specs.Sets.{holds};
 ghost use Rattle.changing.specs.Of.{kept_row, tracked};

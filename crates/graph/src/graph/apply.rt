@@ -80,6 +80,7 @@ impl Graph {
         ensures after { state self.new ≡ gifted p rights q 8 (state self.old) }
     {
         for r in 0..RIGHTS {
+            // A shift and a mask: a method of `Create`, with a contract, would be no plainer.
             if (rights >> r) & 1 == 1 {
                 self.add(p, r, q);
             }

@@ -35,7 +35,7 @@ impl Graph {
         }
     }
 
-    // `p` has right `r` to `q` from now on. False, and nothing is changed, if one of them isn't there: a bool as of a set's `insert`, since there is but one refusal.
+    // `p` has right `r` to `q` from now on. False, and nothing is changed, if one of them isn't there: a bool, since there is one refusal and no caller tells it.
     pub fn give(&mut self, p: Vertex, r: Right, q: Vertex) -> bool
         ensures value { result ≡ (nat_lt p (state self.old).size && (nat_lt r 8 && nat_lt q (state self.old).size)) }
         ensures after { state self.new ≡ (if result then given p r q (state self.old) else state self.old) }

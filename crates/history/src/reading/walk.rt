@@ -68,6 +68,7 @@ impl Reading<'_> {
         ensures few { IfOk result (λ _. (now self.new).size ≤ 128) }
         ensures less { IfOk result (λ _. ahead self.new < ahead self.old) }
     {
+        // Read on by a copy: of the place after a fault nothing is said, and the ghost fields speak of it.
         let mut input = self.input;
         let question = read_posed(&mut input, self.book.graph().size())?;
         self.input = input;
@@ -84,7 +85,7 @@ impl Reading<'_> {
         let mut input = self.input;
         apply_act(&mut input, self.acts, &mut self.book)?;
         self.input = input;
-        // Acts are numbered only where they are done, so the count stands here and not in the reader.
+        // Counted by hand: questions stand among the acts, so no walk has their numbers.
         self.acts += 1;
         Ok(())
     }

@@ -23,6 +23,7 @@ impl<const W: usize> Table<'_, '_, W> {
     {
         let mut rest = word;
         while let Some(b) = pop_bit(&mut rest) {
+            // As `row` says of a vertex; y is a number still.
             let y = 64 * c + b as usize;
             who.add_to(self.rows, 8 * y + r as usize);
         }

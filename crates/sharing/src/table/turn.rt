@@ -1,4 +1,4 @@
-// Who has which right: the rows of targets turned round. A block is 64 lent rows, taken by their index, and its rows go eight apart into the table.
+// Who has which right: the rows of targets turned round. A block is 64 rows in lent words, by a rule of the project, taken by their index; its rows go eight apart into the table.
 ghost use Rattle.std.specs.Prelude.{◌≡◌, ℕ, ◌+◌, ◌*◌, ◌/◌, ◌%◌, ◌<◌, ◌≤◌, true, ◌&&◌, length, ◌==◌};
 ghost use Rattle.bits.specs.Rows.{cell};
 ghost use Rattle.bits.specs.Sets.{among};

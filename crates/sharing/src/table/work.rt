@@ -15,7 +15,7 @@ use model::{GRANT, NARROW, NUMBERS, Right, TAKE};
 use spans::WideLinks;
 
 impl<'g, const W: usize> Table<'g, '_, W> {
-    // Who has right r to each vertex: by its number, since there is a row only for those that are there.
+    // Who has right r to each vertex. By its number, as rows of the lent table are taken.
     fn holders(&self, r: Right) -> [BitSet<W>; NUMBERS]
         requires { r < 8 }
         ensures { (y x : ℕ) → in_sets result y x ≡ (nat_lt y (about W self.now).size && cells W self.now (8 * y + r) x) }
@@ -65,7 +65,8 @@ fn worked_out<'g, 'm, const W: usize>(graph: &'g Graph, rows: &'m mut [u64]) -> 
     rows
 }
 
-// The same, in rows as wide as the graph's vertices need.
+// The same, in rows as wide as the graph's vertices need: two words or four, a choice that is made here and in two places of `spans`. A trait for what is
+// then done in rows of W words would be no plainer than three ifs.
 pub fn filled<'m>(graph: &Graph, rows: &'m mut [u64]) -> &'m [u64]
     requires { table_words (state graph.now).size ≤ length rows.old }
     ensures cells { (i x : ℕ) → cell result.now (row_words (state graph.now).size) i x ≡ shares_row (state graph.now) i x }

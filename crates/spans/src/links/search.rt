@@ -95,7 +95,7 @@ impl Links<'_> {
         }
     }
 
-    // The least barrier round x.
+    // The least barrier round x, by two words or four: rows.rt says why the choice stands here.
     #[tactic(auto, unfolding(crate::specs::Paths::row_words))]
     pub fn barrier(&self, x: Vertex) -> Barrier
         ensures inner { (k : ℕ) → holds result.inner k ≡ inner_of (linked self.now) (only x) k }

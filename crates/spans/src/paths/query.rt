@@ -46,7 +46,7 @@ impl TakePaths<'_> {
     }
 
     // From where take paths lead to whatever has grant to x, and x itself.
-    // A union over a set is a loop at its place: a function that takes what is united as a closure would be no shorter.
+    // A union over a set is a `for` or a `fold` at its place: a function that takes what is united as a closure would be no shorter.
     fn back_from(&self, x: Vertex) -> VertexSet
         ensures value { (q : ℕ) → holds result q ≡ back_from (spanned self.now) x q }
     {

@@ -35,6 +35,7 @@ impl<'a> TakePaths<'a> {
         ensures value { spanned result ≡ state graph.now }
     {
         let n = graph.size();
+        // Two words or four: rows.rt says why the choice stands here.
         let rows = if n <= NARROW {
             rows_of::<2>(graph)
         } else {
