@@ -33,7 +33,7 @@ pub fn inputs() -> Vec<(Program, Vec<u8>)> {
     all.extend(crowded());
     all.extend(long_rows().into_iter().map(|input| (Program::Could, input)));
     all.extend(asked().into_iter().map(|input| (Program::Could, input)));
-    all.extend(answers().into_iter().chain(longest_plans()).map(|input| (Program::Check, input)));
+    all.extend(answers().into_iter().chain(longest_plans()).chain([by_takes_alone()]).map(|input| (Program::Check, input)));
     all
 }
 
@@ -220,6 +220,20 @@ fn answers() -> Vec<Vec<u8>> {
         }
     }
     all
+}
+
+/// A sheet that is right for who looks at takes alone: 0 takes from 2, into which 1 may put, and 1 has the right to 3. J = {0}, I = {0}, O = {0, 2}.
+fn by_takes_alone() -> Vec<u8> {
+    let mut graph = Graph::new(vec![true, true, false, false]);
+    graph.give(0, TAKE, 2);
+    graph.give(1, GRANT, 2);
+    graph.give(1, 2, 3);
+    let mut sheet = vec![6, 0, 2, 3, 17];
+    for set in [1, 1, 5] {
+        sheet.extend([0; 31]);
+        sheet.push(set);
+    }
+    followed(&write_book(&graph), &sheet)
 }
 
 /// Plans of nothing but drops, as long as may be, and one act longer.
