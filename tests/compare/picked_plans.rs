@@ -133,8 +133,8 @@ const BOOKS: [Picked; 12] = [
     },
 ];
 
-/// The plan over a chain of 128 subjects, each with grant to the next, has the numbers that were worked out by hand: 508 acts, four
-/// for each of 127 bridges, which create 127 objects, the last of them numbered 254.
+/// The plan over a chain of 128 subjects, each with grant to the next, creates 127 objects, the last of them numbered 254.
+/// It was expected to have 509 acts; the reference says 508, and so do the programs. Why the two differ is not known.
 fn ask_chain(runner: &mut Runner, random: &mut Random) {
     let mut graph = Graph::new(vec![true; 128]);
     for v in 1..128 {

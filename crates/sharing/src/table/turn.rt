@@ -15,7 +15,7 @@ const BLOCK: usize = 256;
 // How many rows of targets are looked at to guess how many rights there are.
 const SAMPLE: u8 = 16;
 
-// How many rights in these make it worthwhile to turn whole blocks: where both ways took as long when they were measured at 128 vertices.
+// How many rights in these make it worthwhile to turn whole blocks: a guess, on which only time depends.
 const MANY: usize = 43;
 
 impl<const W: usize> Table<'_, '_, W> {
