@@ -40,24 +40,6 @@ fn pop(set: &mut u128) -> usize {
     v
 }
 
-// Right by right, which is the faster way where there are few.
-fn enter(book: &Book, rows: &mut [[u64; 2]; 1024]) {
-    rows.fill([0; 2]);
-    for x in 0..128 {
-        for r in 0..8 {
-            let targets = book.targets[x][r];
-            for w in 0..2 {
-                let mut rest = (targets >> (64 * w)) as u64;
-                while rest != 0 {
-                    let y = 64 * w + rest.trailing_zeros() as usize;
-                    rest &= rest - 1;
-                    rows[8 * y + r][x / 64] |= 1 << (x % 64);
-                }
-            }
-        }
-    }
-}
-
 // 64 rows of two words, each 64 columns turned round in place: strips of 32, 16 .. 1 swapped.
 fn swap<const J: usize>(block: &mut [[u64; 2]; 64], mask: u64) {
     for b in 0..32 / J {
@@ -78,24 +60,6 @@ fn transpose(block: &mut [[u64; 2]; 64]) {
     swap::<4>(block, 0x0f0f_0f0f_0f0f_0f0f);
     swap::<2>(block, 0x3333_3333_3333_3333);
     swap::<1>(block, 0x5555_5555_5555_5555);
-}
-
-fn turn(book: &Book, rows: &mut [[u64; 2]; 1024]) {
-    let mut block = [[0; 2]; 64];
-    for r in 0..8 {
-        for g in 0..2 {
-            for i in 0..64 {
-                let targets = book.targets[64 * g + i][r];
-                block[i] = [targets as u64, (targets >> 64) as u64];
-            }
-            transpose(&mut block);
-            for c in 0..2 {
-                for i in 0..64 {
-                    rows[8 * (64 * c + i) + r][g] = block[i][c];
-                }
-            }
-        }
-    }
 }
 
 // A guess by a sample: to count all rights takes longer than to turn them.
@@ -138,7 +102,60 @@ fn reach(book: &Book, takers: &[u128; 128], granters: &[u128; 128], l: usize) ->
     }
 }
 
-fn spread(book: &Book, rows: &mut [[u64; 2]; 1024], out: u128) {
+
+// Who has right r to each vertex: right by right, which is the faster way where there are few.
+fn enter(book: &Book, r: usize, sets: &mut [[u64; 2]; 128]) {
+    for x in 0..128 {
+        let targets = book.targets[x][r];
+        for w in 0..2 {
+            let mut rest = (targets >> (64 * w)) as u64;
+            while rest != 0 {
+                let y = 64 * w + rest.trailing_zeros() as usize;
+                rest &= rest - 1;
+                sets[y][x / 64] |= 1 << (x % 64);
+            }
+        }
+    }
+}
+
+fn turn(book: &Book, r: usize, sets: &mut [[u64; 2]; 128]) {
+    let mut block = [[0; 2]; 64];
+    for g in 0..2 {
+        for i in 0..64 {
+            let targets = book.targets[64 * g + i][r];
+            block[i] = [targets as u64, (targets >> 64) as u64];
+        }
+        transpose(&mut block);
+        for c in 0..2 {
+            for i in 0..64 {
+                sets[64 * c + i][g] = block[i][c];
+            }
+        }
+    }
+}
+
+// Who has right r to each vertex.
+fn holders(book: &Book, r: usize, few: bool) -> [u128; 128] {
+    let mut sets = [[0; 2]; 128];
+    if few { enter(book, r, &mut sets) } else { turn(book, r, &mut sets) }
+    std::array::from_fn(|y| set(sets[y]))
+}
+
+// Adds `who` to the rows of right r to each of the targets.
+fn share(rows: &mut [[u64; 2]; 1024], r: usize, targets: u128, who: u128) {
+    for w in 0..2 {
+        let mut rest = (targets >> (64 * w)) as u64;
+        while rest != 0 {
+            let y = 64 * w + rest.trailing_zeros() as usize;
+            rest &= rest - 1;
+            rows[8 * y + r][0] |= who as u64;
+            rows[8 * y + r][1] |= (who >> 64) as u64;
+        }
+    }
+}
+
+// Adds what an island brings. Answers with those whose own rights that brought: who is where the island reaches, and gets what it brings.
+fn spread(book: &Book, rows: &mut [[u64; 2]; 1024], out: u128) -> u128 {
     let mut held = [0u128; 8];
     let mut from = out;
     while from != 0 {
@@ -149,35 +166,51 @@ fn spread(book: &Book, rows: &mut [[u64; 2]; 1024], out: u128) {
     }
     let who = (out & book.subjects) | held[1];
     for r in 0..8 {
-        for w in 0..2 {
-            let mut rest = (held[r] >> (64 * w)) as u64;
-            while rest != 0 {
-                let y = 64 * w + rest.trailing_zeros() as usize;
-                rest &= rest - 1;
-                rows[8 * y + r][0] |= who as u64;
-                rows[8 * y + r][1] |= (who >> 64) as u64;
-            }
+        share(rows, r, held[r], who);
+    }
+    who & out
+}
+
+// Adds what those of a set have themselves, right by right.
+fn enter_rest(book: &Book, rows: &mut [[u64; 2]; 1024], mut left: u128) {
+    while left != 0 {
+        let x = pop(&mut left);
+        for r in 0..8 {
+            share(rows, r, book.targets[x][r], 1 << x);
         }
     }
 }
 
+// Adds what each has itself, right by right turned round.
+fn turn_rest(book: &Book, rows: &mut [[u64; 2]; 1024]) {
+    for r in 0..8 {
+        let mut sets = [[0; 2]; 128];
+        turn(book, r, &mut sets);
+        for y in 0..128 {
+            rows[8 * y + r][0] |= sets[y][0];
+            rows[8 * y + r][1] |= sets[y][1];
+        }
+    }
+}
+
+// Only take and grant are turned for the search. Whoever an island gives what it brings needs no turning of what it has itself.
 fn table(book: &Book, rows: &mut [[u64; 2]; 1024]) {
-    if few(book) {
-        enter(book, rows);
-    } else {
-        turn(book, rows);
-    }
-    let (mut takers, mut granters) = ([0; 128], [0; 128]);
-    for y in 0..128 {
-        takers[y] = set(rows[8 * y]);
-        granters[y] = set(rows[8 * y + 1]);
-    }
+    let few = few(book);
+    let takers = holders(book, 0, few);
+    let granters = holders(book, 1, few);
+    rows.fill([0; 2]);
     let mut rest = book.subjects;
+    let mut left = !0u128;
     while rest != 0 {
         let l = rest.trailing_zeros() as usize;
         let out = reach(book, &takers, &granters, l);
         rest &= !out;
-        spread(book, rows, out);
+        left &= !spread(book, rows, out);
+    }
+    if few || left.count_ones() < 8 {
+        enter_rest(book, rows, left);
+    } else {
+        turn_rest(book, rows);
     }
 }
 

@@ -12,14 +12,16 @@ pub struct Sharing {
 impl Sharing {
     pub fn of(graph: &Graph) -> Sharing {
         let mut rows = Box::new([[0; 8]; 128]);
-        hold(graph, &mut rows);
         let links = Links::of(graph);
         let mut rest = links.subjects;
+        let mut left = if graph.size == 128 { !0 } else { one(graph.size) - 1 };
         while rest != 0 {
             let island = links.barrier(lowest(rest));
             rest &= !island.inner;
-            spread(graph, island.inner, island.out, &mut rows);
+            // Who is where the island reaches, and gets what it brings, has got what it has itself.
+            left &= !(spread(graph, island.inner, island.out, &mut rows) & island.out);
         }
+        hold(graph, left, &mut rows);
         Sharing { rows }
     }
 
@@ -28,15 +30,14 @@ impl Sharing {
     }
 }
 
-/// Adds who has what now.
-fn hold(graph: &Graph, rows: &mut [[Set; 8]; 128]) {
-    let held: u32 = graph.rows[..graph.size as usize].iter().flatten().map(|row| row.narrow().count_ones()).sum();
+/// Adds what those of the set have now.
+fn hold(graph: &Graph, set: Set, rows: &mut [[Set; 8]; 128]) {
+    let mut held = 0;
+    each(set, |x| held += graph.rows[x as usize].iter().map(|row| row.narrow().count_ones()).sum::<u32>());
     for right in 0..8 {
         // Turning whole blocks pays from some six rights to a vertex and kind on.
         if held < 48 * graph.size as u32 {
-            for x in 0..graph.size {
-                each(graph.targets(x, right), |y| rows[y as usize][right as usize] |= one(x));
-            }
+            each(set, |x| each(graph.targets(x, right), |y| rows[y as usize][right as usize] |= one(x)));
         } else {
             turn(graph, right, rows);
         }
@@ -75,8 +76,8 @@ fn transpose(block: &mut [u64; 64]) {
     }
 }
 
-/// Adds what one island brings: all that `out` has goes to the island and to whom it can grant.
-fn spread(graph: &Graph, inner: Set, out: Set, rows: &mut [[Set; 8]; 128]) {
+/// Adds what one island brings: all that `out` has goes to the island and to whom it can grant. Answers with those.
+fn spread(graph: &Graph, inner: Set, out: Set, rows: &mut [[Set; 8]; 128]) -> Set {
     let mut held = [0; 8];
     each(out, |t| {
         for (all, row) in held.iter_mut().zip(&graph.rows[t as usize]) {
@@ -87,6 +88,7 @@ fn spread(graph: &Graph, inner: Set, out: Set, rows: &mut [[Set; 8]; 128]) {
     for (right, targets) in held.iter().enumerate() {
         each(*targets, |y| rows[y as usize][right] |= who);
     }
+    who
 }
 
 fn write_number(n: u32, out: &mut Vec<u8>) {

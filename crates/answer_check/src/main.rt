@@ -1,7 +1,9 @@
 // check: reads a book, a question and an answer, and prints `right`, or the first fault.
 #![tactic(auto)]
 
-use checker::check;
+ghost use Rattle.std.specs.Prelude.{IsErr, OnErr};
+
+use checker::{CheckFault, check};
 use console::Request;
 
 const HELP: &str = "\
@@ -30,7 +32,14 @@ fn run(rt: &HostRuntime) -> anyhow::Result<()> {
 
 fn print_verdict(rt: &HostRuntime, files: &[String]) -> anyhow::Result<()> {
     let input = console::read_input(rt, files)?;
-    match check(&input) {
+    print_answer(rt, check(&input))
+}
+
+// Where the answer isn't right, the program ends with an error.
+fn print_answer(rt: &HostRuntime, answer: Result<(), CheckFault>) -> anyhow::Result<()>
+    ensures { OnErr answer (IsErr result) }
+{
+    match answer {
         Ok(()) => Ok(rt.println("right")?),
         Err(fault) => console::tell(rt, fault.number(), fault.place(), fault),
     }

@@ -37,7 +37,8 @@ pub fn answer_records(heap: Global, bytes: &[u8]) -> Result<Answers, InputError>
 }
 
 // One room serves all plans: the longest that there may be.
-// Clauses say `size ≤ 128`, since a graph may have 255 vertices: a type of narrow graphs would need each method of a graph again.
+// Clauses say `size ≤ 128`, since a graph may have 255 vertices: a type of narrow graphs would be taken apart by each of these, which all call what takes a
+// graph.
 fn write_answers(heap: Global, graph: &Graph, questions: &[Question]) -> Result<Answers, AllocError>
     requires { (state graph.now).size ≤ 128 }
     ensures { IfOk result (λ a. (a.lines.items ≡ lines_of (state graph.now) questions.now) × (a.records.items ≡ records_of (state graph.now) questions.now)) }

@@ -48,12 +48,12 @@ fn write_counts(sharing: &Sharing, y: Vertex, text: &mut String) -> Result<(), A
     ensures { Appended result (string_bytes text.old) (string_bytes text.new) (counts_of (answered sharing.now) y 8) }
 {
     for r in 0..RIGHTS {
-        write_count(sharing.count(r, y), r == 7, text)?;
+        write_count(sharing.count(r, y), r == RIGHTS - 1, text)?;
     }
     Ok(())
 }
 
-// `last` of its line, which then ends.
+// `last` of its line, which then ends: a bool, since it is asked for once and says no more.
 fn write_count(n: usize, last: bool, text: &mut String) -> Result<(), AllocError>
     ensures { Appended result (string_bytes text.old) (string_bytes text.new) (count_of n last) }
 {

@@ -1,11 +1,11 @@
 -- The laws of tables of bits.
-use Rattle.std.proofs.Common.{◌≡◌, ℕ, ◌+◌, ◌-◌, ◌*◌, ◌/◌, ◌%◌, ◌<◌, ◌≤◌, Bool, false, cond, ◌&&◌, ◌||◌, eqb, ltb, leb, ◌⊎◌, List, length, get_or, take, drop, set, sym, ap, ◌∙◌, ap₂, inl, inr, mul-le-mul_right, suc-mul, arith}
+use Rattle.std.proofs.Common.{◌≡◌, ℕ, ◌+◌, ◌-◌, ◌*◌, ◌/◌, ◌%◌, ◌<◌, ◌≤◌, false, cond, ◌&&◌, ◌||◌, eqb, ltb, leb, ◌⊎◌, List, length, get_or, take, drop, set, sym, ap, ◌∙◌, ap₂, inl, inr, mul-le-mul_right, suc-mul, arith}
 use lib.Bits.{bit_or}
 use Rattle.std.proofs.lemmas.List.{get_or-take, get_or-drop, length-take-le, length-drop}
 use Rattle.std.proofs.lemmas.Bool.{cases_eq, cases_lt, cases_order, lt-ltb, le-ltb}
 use Rattle.std.proofs.lemmas.Bool.Decides.{nat_tests}
 use Rattle.model.specs.Bit.{bit}
-use Rattle.bits.specs.Sets.{member, Same}
+use Rattle.bits.specs.Sets.{member}
 use Rattle.bits.specs.Rows.{cell}
 use Rattle.bits.proofs.Bit.{bit_or-law}
 use Rattle.bits.proofs.Member.{member_past, member_set, member_at, member_word}
@@ -146,41 +146,19 @@ added_all was w into from t i e inv x k =
           ]
     ]
 
--- Of row x, the words below i have what the words of a set have too.
-abbrev pub Gained : List ℕ → ℕ → ℕ → List ℕ → List ℕ → ℕ → Type 0
-Gained was w x ws t i = (p : ℕ) → member t p ≡ (member was p || ((leb (64 * (x * w)) p && ltb p (64 * (x * w + i))) && member ws (p - 64 * (x * w))))
+-- The words below i have what the words of a set have too.
+abbrev pub Gained : List ℕ → List ℕ → List ℕ → ℕ → Type 0
+Gained was ws t i = (p : ℕ) → member t p ≡ (member was p || (ltb p (64 * i) && member ws p))
 
-pub gained_none : (was : List ℕ) (w x : ℕ) (ws : List ℕ) → Gained was w x ws was 0
-gained_none was w x ws p = grind (arith, nat_tests)
-
-pub gained_more : (was : List ℕ) (w x : ℕ) (ws t : List ℕ) (i : ℕ) → i < w → x * w + w ≤ length t → Gained was w x ws t i → Gained was w x ws (set t (x * w + i) (bit_or (get_or t (x * w + i) 0) (get_or ws i 0))) (i + 1)
-gained_more was w x ws t i h l inv p =
-    let a : ℕ = x * w + i in
-    let written = member_set t a (bit_or (get_or t a 0) (get_or ws i 0)) p (omega arith) in
+pub gained_more : (was ws t : List ℕ) (i : ℕ) → i < length t → Gained was ws t i → Gained was ws (set t i (bit_or (get_or t i 0) (get_or ws i 0))) (i + 1)
+gained_more was ws t i h inv p =
+    let written = member_set t i (bit_or (get_or t i 0) (get_or ws i 0)) p h in
     let before = inv p in
-    elim (cases_eq (p / 64) a) [
+    elim (cases_eq (p / 64) i) [
       | inl e ↦
-          let left = member_at t a p e in
-          let right = member_word ws i (p % 64) (omega arith) in
-          let either = bit_or-law (get_or t a 0) (get_or ws i 0) (p % 64) in
-          let same : member ws (p - 64 * (x * w)) ≡ member ws (64 * i + p % 64) = ap (member ws) (omega arith) in
+          let left = member_at t i p e in
+          let right = member_at ws i p e in
+          let either = bit_or-law (get_or t i 0) (get_or ws i 0) (p % 64) in
           grind (arith, nat_tests)
       | inr d ↦ grind (arith, nat_tests)
-    ]
-
-pub gained_all : (was : List ℕ) (w x : ℕ) (ws t : List ℕ) (i : ℕ) (f : ℕ → Bool) → i ≡ w → Same (member ws) f → Gained was w x ws t i → (y k : ℕ) → cell t w y k ≡ (cell was w y k || (eqb y x && (ltb k (64 * w) && f k)))
-unfolding cell
-gained_all was w x ws t i f e s inv y k =
-    let all = inv (64 * (y * w) + k) in
-    let here = s k in
-    elim (rows_order y x w) [
-      | inl g ↦
-          let same : y * w ≡ x * w = ap (λ z. z * w) g in
-          let source : member ws (64 * (y * w) + k - 64 * (x * w)) ≡ member ws k = ap (member ws) (omega arith) in
-          grind (arith, nat_tests)
-      | inr o ↦
-          elim o [
-            | inl g ↦ grind (arith, nat_tests)
-            | inr g ↦ grind (arith, nat_tests)
-          ]
     ]

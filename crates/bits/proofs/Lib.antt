@@ -9,6 +9,7 @@ pub mod Bytes
 pub mod FromFn
 pub mod Walk
 pub mod Chain
+pub mod Gathered
 mod Turn
 pub mod Packed
 pub mod Cell

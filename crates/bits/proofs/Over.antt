@@ -1,14 +1,14 @@
 -- A row whose words were written over at once.
-use Rattle.std.proofs.Common.{◌≡◌, ℕ, ◌+◌, ◌*◌, ◌/◌, ◌%◌, ◌<◌, ◌≤◌, Bool, true, false, cond, not, ◌&&◌, eqb, List, length, get_or, replicate, sym, refl, ap, ◌∙◌, inl, inr, arith}
+use Rattle.std.proofs.Common.{◌≡◌, ℕ, ◌+◌, ◌*◌, ◌/◌, ◌%◌, ◌<◌, ◌≤◌, Bool, true, false, cond, not, ◌&&◌, ◌||◌, eqb, ltb, List, length, get_or, take, drop, replicate, sym, refl, ap, ◌∙◌, ap₂, inl, inr, arith}
 use borrow.Rule.Slice.PartMut.{put_mid}
 use Rattle.std.proofs.lemmas.List.{places, length-replicate}
-use Rattle.std.proofs.lemmas.Bool.{cases_lt, le-ltb}
+use Rattle.std.proofs.lemmas.Bool.{cases_eq, cases_lt, le-ltb}
 use Rattle.std.proofs.lemmas.Bool.Decides.{nat_tests}
 use Rattle.model.specs.Bit.{bit}
 use Rattle.bits.specs.Sets.{member}
 use Rattle.bits.specs.Rows.{cell}
 use Rattle.bits.proofs.Member.{member_past, member_at, member_zeros}
-use Rattle.bits.proofs.Cell.{rows_order}
+use Rattle.bits.proofs.Cell.{length_row, member_row, rows_order}
 
 module _ (t ws : List ℕ) (a k : ℕ) (fits : a + k ≤ length t) (long : length ws ≡ k) where
   outside_at : (i : ℕ) → (a ≤ i → i < a + k → ⊥) → get_or (put_mid a k t ws) i 0 ≡ get_or t i 0
@@ -63,3 +63,15 @@ cell_cleared t ws w x k fits e zeros y j =
     law : (a b : Bool) → cond a false b ≡ (not a && b)
     law true b = refl
     law false b = refl
+
+-- Row x has what the words have too.
+pub cell_gained : (t us ws : List ℕ) (w x k : ℕ) → x * w + w ≤ length t → k ≡ w → length us ≡ length (take k (drop (x * w) t)) → ((p : ℕ) → member us p ≡ (member (take k (drop (x * w) t)) p || (ltb p (64 * length (take k (drop (x * w) t))) && member ws p))) → (y j : ℕ) → cell (put_mid (x * w) k t us) w y j ≡ (cell t w y j || (eqb y x && (ltb j (64 * w) && member ws j)))
+cell_gained t us ws w x k fits e long step y j =
+    let size : length (take k (drop (x * w) t)) ≡ w = ap (λ n. length (take n (drop (x * w) t))) e ∙ length_row t (x * w) w fits in
+    let over = cell_over t us w x k fits e (long ∙ size) y j in
+    let row : member (take k (drop (x * w) t)) j ≡ cell t w x j = ap (λ n. member (take n (drop (x * w) t)) j) e ∙ member_row t w x j fits in
+    let new : member us j ≡ (cell t w x j || (ltb j (64 * w) && member ws j)) = step j ∙ ap₂ (λ a n. a || (ltb j (64 * n) && member ws j)) row size in
+    elim (cases_eq y x) [
+      | inl f ↦ let same : cell t w y j ≡ cell t w x j = ap (λ z. cell t w z j) f in grind (arith, nat_tests)
+      | inr f ↦ grind (arith, nat_tests)
+    ]

@@ -1,6 +1,7 @@
 -- Eight bytes to a word: how the bytes of a set lie in its words.
-use Rattle.std.proofs.Common.{◌≡◌, ℕ, ◌+◌, ◌-◌, ◌*◌, ◌/◌, ◌%◌, ◌^◌, ◌<◌, ◌≤◌, false, ◌&&◌, ◌||◌, eqb, leb, List, length, get_or, set, replicate, sym, ap, ◌∙◌, ap₂, inl, inr, arith}
+use Rattle.std.proofs.Common.{◌≡◌, ℕ, ◌+◌, ◌-◌, ◌*◌, ◌/◌, ◌%◌, ◌^◌, ◌<◌, ◌≤◌, false, ◌&&◌, ◌||◌, eqb, leb, ltb, List, [], ◌∷◌, ◌++◌, length, take, get_or, set, replicate, sym, ap, ◌∙◌, ap₂, inl, inr, arith}
 use lib.Bits.{bit_and, bit_or, and_mask}
+use Rattle.std.proofs.lemmas.List.{length-take-le, length_push, take_all, same_from_push, take_more}
 use Rattle.std.proofs.lemmas.Nat.{shl_whole}
 use Rattle.std.proofs.lemmas.Bool.{cases_eq, cases_lt}
 use Rattle.std.proofs.lemmas.Bool.Decides.{nat_tests}
@@ -56,28 +57,38 @@ member_add_byte ws j b v k e h l =
       | inr f ↦ grind (arith, nat_tests)
     ]
 
--- The words have what the first i bytes name.
-abbrev pub Read : List ℕ → List ℕ → ℕ → Type 0
-Read bs ws i = (k : ℕ) → member ws k ≡ (leb (length bs - i) (k / 8) && in_bytes bs k)
+-- The words have what the last i bytes name, and the rest of the bytes are left.
+abbrev pub Read : List ℕ → List ℕ → List ℕ → ℕ → Type 0
+Read bs rest ws i = ((rest ≡ take (length bs - i) bs) × (i ≤ length bs)) × ((k : ℕ) → member ws k ≡ (ltb (k / 8) i && in_bytes bs k))
 
-pub read_none : (bs : List ℕ) (n : ℕ) → Read bs (replicate n 0) 0
+pub read_none : (bs rest : List ℕ) (n i : ℕ) → rest ≡ bs → i ≡ 0 → Read bs rest (replicate n 0) i
+read_none bs rest n i all none = ((all ∙ sym (take_all (length bs - i) bs (omega arith)), omega arith), λ k. let empty = member_zeros n k in grind (arith, nat_tests))
+
+-- The last of what is left, and what is left then.
+last_of : (bs us : List ℕ) (n b : ℕ) → n ≤ length bs → take n bs ≡ us ++ b ∷ [] → (us ≡ take (n - 1) bs) × ((b ≡ get_or bs (n - 1) 0) × (0 < n))
+last_of bs us n b h e =
+    let long : n ≡ length us + 1 = sym (length-take-le n bs h) ∙ ap length e ∙ length_push us b in
+    let more : take n bs ≡ take (n - 1) bs ++ get_or bs (n - 1) 0 ∷ [] = ap (λ m. take m bs) (omega arith) ∙ take_more bs (n - 1) 0 (omega arith) in
+    let both = same_from_push us (take (n - 1) bs) b (get_or bs (n - 1) 0) (sym e ∙ more) in
+    (both.0, (both.1, omega arith))
+
+pub read_more : (bs rest us ws vs : List ℕ) (i j n b : ℕ) → Read bs rest ws i → rest ≡ us ++ b ∷ [] → j ≡ i → n ≡ i + 1 → ((k : ℕ) → member vs k ≡ ((eqb (k / 8) j && bit b (k % 8)) || member ws k)) → Read bs us vs n
 unfolding in_bytes
-read_none bs n k =
-    let empty = member_zeros n k in
-    elim (cases_lt (k / 8) (length bs)) [
-      | inl h ↦ grind (arith, nat_tests)
-      | inr h ↦ grind (arith, nat_tests)
-    ]
+read_more bs rest us ws vs i j n b inv e at next step =
+    let last = last_of bs us (length bs - i) b (omega arith) (sym inv.0.0 ∙ e) in (
+      (last.0 ∙ ap (λ m. take m bs) (omega arith), omega arith),
+      λ k.
+          let one = step k in
+          let before = inv.1 k in
+          elim (cases_eq (k / 8) i) [
+            | inl f ↦ let same : get_or bs (length bs - 1 - k / 8) 0 ≡ b = ap (λ p. get_or bs p 0) (omega arith) ∙ sym last.1.0 in grind (arith, nat_tests)
+            | inr d ↦ grind (arith, nat_tests)
+          ],
+    )
 
-pub read_more : (bs ws vs : List ℕ) (i : ℕ) → i < length bs → ((k : ℕ) → member vs k ≡ ((eqb (k / 8) (length bs - 1 - i) && bit (get_or bs i 0) (k % 8)) || member ws k)) → Read bs ws i → Read bs vs (i + 1)
+pub read_all : (bs rest ws : List ℕ) (i : ℕ) → length rest ≡ 0 → Read bs rest ws i → (k : ℕ) → member ws k ≡ in_bytes bs k
 unfolding in_bytes
-read_more bs ws vs i h step inv k =
-    let one = step k in
-    let before = inv k in
-    elim (cases_eq (k / 8) (length bs - 1 - i)) [
-      | inl e ↦ let same : get_or bs (length bs - 1 - k / 8) 0 ≡ get_or bs i 0 = ap (λ p. get_or bs p 0) (omega arith) in grind (arith, nat_tests)
-      | inr d ↦ grind (arith, nat_tests)
-    ]
-
-pub read_all : (bs ws : List ℕ) (i : ℕ) → length bs ≤ i → Read bs ws i → (k : ℕ) → member ws k ≡ in_bytes bs k
-read_all bs ws i h inv k = let all = inv k in grind (arith, nat_tests)
+read_all bs rest ws i h inv k =
+    let all = inv.1 k in
+    let long : length bs - i ≡ 0 = sym (length-take-le (length bs - i) bs (omega arith)) ∙ ap length (sym inv.0.0) ∙ h in
+    grind (arith, nat_tests)

@@ -5,6 +5,8 @@ ghost use Rattle.std.specs.Prelude.{◌≡◌, ℕ, ◌*◌, ◌/◌, ◌%◌, �
 ghost use Rattle.bits.specs.Sets.{Same, byte_of, in_bytes, member, set_bytes};
 ghost use Rattle.model.specs.Bit.{bit};
 
+use crate::set::WIDE;
+
 // Adds the numbers that a byte names: it is the one that j bytes follow.
 fn add_byte(words: &mut [u64], j: usize, byte: u8)
     requires { j < 8 * length words.old }
@@ -14,14 +16,13 @@ fn add_byte(words: &mut [u64], j: usize, byte: u8)
 }
 
 // The set that at most 32 bytes name.
-pub fn read(bytes: &[u8]) -> [u64; 4]
+pub fn read(bytes: &[u8]) -> [u64; WIDE]
     requires { length bytes.now ≤ 32 }
     ensures { (k : ℕ) → member result k ≡ in_bytes bytes.now k }
 {
-    let mut words = [0; 4];
-    // Counted from the front: a walk from the back, which counts what follows, was tried, and its proof didn't close.
-    for (i, byte) in bytes.iter().enumerate() {
-        add_byte(&mut words, bytes.len() - 1 - i, *byte);
+    let mut words = [0; WIDE];
+    for (j, byte) in bytes.iter().rev().enumerate() {
+        add_byte(&mut words, j, *byte);
     }
     words
 }
@@ -34,7 +35,7 @@ fn byte_at(words: &[u64], j: usize) -> u8
     (words[j / 8] >> (8 * (j % 8)) & 0xff) as u8
 }
 
-pub fn write(words: &[u64; 4]) -> [u8; 32]
+pub fn write(words: &[u64; WIDE]) -> [u8; 32]
     ensures { (f : ℕ → Bool) → Same f (member words.now) → result ≡ set_bytes 32 f }
 {
     std::array::from_fn(|i| byte_at(words, 31 - i))

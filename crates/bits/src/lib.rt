@@ -15,9 +15,9 @@ pub use rows::{
     row_add, row_clear, row_contains, row_count, row_insert, row_is_subset, row_put, row_set,
     row_union, row_word,
 };
-pub use select::those;
-pub use set::{BitSet, VertexSet};
-pub use words::pop_bit;
+pub use select::{those, united};
+pub use set::{BitSet, VertexSet, WIDE};
+pub use words::{has_bit, pop_bit};
 
 #[cfg(test)]
 mod tests {

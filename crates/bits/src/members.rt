@@ -6,7 +6,7 @@ ghost use Rattle.bits.specs.Members.{TakesLowest, left};
 ghost use Rattle.bits.specs.Sets.{among};
 ghost use Rattle.model.specs.Bounded.{count_below};
 
-use crate::set::{BitSet, VertexSet};
+use crate::set::{BitSet, VertexSet, WIDE};
 
 // The members that are left, the lowest first.
 #[derive(Clone, Debug, Drop)]
@@ -39,11 +39,11 @@ impl<const W: usize> BitSet<W> {
 impl IntoIterator for VertexSet {
     type Item = u8;
 
-    type IntoIter = Members<4>;
+    type IntoIter = Members<WIDE>;
 
     ghost into_iter_gives = { λ set members. left members ≡ set };
 
-    fn into_iter(self) -> Members<4> {
+    fn into_iter(self) -> Members<WIDE> {
         self.iter()
     }
 }

@@ -83,18 +83,27 @@ pub fn row_clear(rows: &mut [u64], w: usize, x: usize)
     rows[x * w..x * w + w].fill(0);
 }
 
+// Adds to each word of a row what the word of its place has. One of the two slices is taken by index: of what `iter_mut` is zipped with, the library
+// doesn't say what is in the elements afterwards.
+fn unite(row: &mut [u64], words: &[u64])
+    requires { length row.old ≤ length words.now }
+    ensures size { length row.new ≡ length row.old }
+    ensures value { (k : ℕ) → member row.new k ≡ (member row.old k || (nat_lt k (64 * length row.old) && member words.now k)) }
+{
+    for (i, word) in row.iter_mut().enumerate() {
+        *word |= words[i];
+    }
+}
+
 // Adds to row x what the first w words have.
 fn add_words(rows: &mut [u64], w: usize, x: usize, words: &[u64])
     requires { (x * w + w ≤ length rows.old) × (w ≤ length words.now) }
     ensures { (y k : ℕ) → cell rows.new w y k ≡ (cell rows.old w y k || (y == x && (nat_lt k (64 * w) && member words.now k))) }
 {
-    // By index: a walk over both slices side by side was tried, and its proof didn't close.
-    for i in 0..w {
-        rows[x * w + i] |= words[i];
-    }
+    unite(&mut rows[x * w..x * w + w], words);
 }
 
-// What row x has, as a set: `BitSet::at` where the width is known only when the program runs.
+// What row x has, as a set of vertices: `BitSet::at` where the width is known only when the program runs.
 pub fn row_set(rows: &[u64], w: usize, x: usize) -> VertexSet
     requires { (x * w + w ≤ length rows.now) × (w ≤ 4) }
     ensures { (k : ℕ) → holds result k ≡ cell rows.now w x k }
@@ -102,7 +111,7 @@ pub fn row_set(rows: &[u64], w: usize, x: usize) -> VertexSet
     BitSet::of(words::resized(row(rows, w, x)))
 }
 
-// Adds to row x what the set has, of whatever width the row is; what is past its end is left out.
+// Adds to row x what the set has, of whatever width the row is; what is past its end is left out. So `add_to` is for a set as wide as the row.
 pub fn row_add(rows: &mut [u64], w: usize, x: usize, set: &VertexSet)
     requires { (x * w + w ≤ length rows.old) × (w ≤ 4) }
     ensures { (y k : ℕ) → cell rows.new w y k ≡ (cell rows.old w y k || (y == x && (nat_lt k (64 * w) && holds set.now k))) }

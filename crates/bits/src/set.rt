@@ -3,7 +3,7 @@
 ghost use Rattle.std.specs.Prelude.{◌≡◌, ℕ, ◌*◌, ◌<◌, ◌≤◌, true, false, not, ◌&&◌, ◌||◌, length, MatchOption, ◌==◌, nat_lt};
 ghost use Rattle.bits.specs.Members.{TakesLowest};
 ghost use Rattle.bits.specs.Sets.{among, holds, in_bytes, member, set_bytes};
-ghost use Rattle.model.specs.Bounded.{all_below, count_below, implies};
+ghost use Rattle.model.specs.Bounded.{all_below, count_below, implies, some_below};
 
 use crate::{big_endian, words};
 
@@ -13,8 +13,10 @@ pub struct BitSet<const W: usize> {
     words: [u64; W],
 }
 
-// A vertex is a byte, so four words have a bit for each.
-pub type VertexSet = BitSet<4>;
+// The words of a set that has a bit for each vertex: a vertex is a byte.
+pub const WIDE: usize = 4;
+
+pub type VertexSet = BitSet<WIDE>;
 
 impl<const W: usize> BitSet<W> {
     pub(crate) fn of(words: [u64; W]) -> BitSet<W>
@@ -97,6 +99,13 @@ impl<const W: usize> BitSet<W> {
         ensures { result ≡ all_below (64 * W) (λ k. not (among W self.now k)) }
     {
         words::is_empty(&self.words())
+    }
+
+    // Have both a member in common?
+    pub fn meets(&self, other: &BitSet<W>) -> bool
+        ensures { result ≡ some_below (64 * W) (λ k. among W self.now k && among W other.now k) }
+    {
+        !self.intersection(other).is_empty()
     }
 
     // The lowest number. A byte numbers what four words have, so here and where this is called W is at most 4; other sets may be wider.

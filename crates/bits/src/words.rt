@@ -15,6 +15,14 @@ pub fn has(words: &[u64], at: usize, i: usize) -> bool
     words[at] >> i & 1 == 1
 }
 
+// Has the byte bit i?
+pub fn has_bit(byte: u8, i: u8) -> bool
+    requires { i < 8 }
+    ensures { result ≡ bit byte i }
+{
+    byte >> i & 1 == 1
+}
+
 // Adds the number 64 * at + i.
 pub fn put(words: &mut [u64], at: usize, i: usize)
     requires { (at < length words.old) × (i < 64) }
@@ -122,7 +130,7 @@ pub fn lowest(words: &[u64]) -> Option<usize>
 fn word(words: &[u64], i: usize) -> u64
     ensures { result ≡ slice_index words.now i }
 {
-    if i < words.len() { words[i] } else { 0 }
+    words.get(i).copied().unwrap_or(0)
 }
 
 // The same set in W words, as far as there is room.

@@ -1,6 +1,8 @@
 // book: reads a book and acts, and prints the book after them, or the first fault.
 #![tactic(auto)]
 
+ghost use Rattle.std.specs.Prelude.{IsErr, OnErr};
+
 use anyhow::anyhow;
 use codec::{InputError, replay};
 use console::Request;
@@ -28,10 +30,17 @@ fn run(rt: &HostRuntime) -> anyhow::Result<()> {
     }
 }
 
-// That an error of the input is told so stands in `could` too: console, which both stand on, knows nothing of inputs.
 fn print_after(rt: &HostRuntime, files: &[String]) -> anyhow::Result<()> {
     let input = console::read_input(rt, files)?;
-    match replay(rt.alloc(), &input) {
+    print_answer(rt, replay(rt.alloc(), &input))
+}
+
+// Where there is no book, the program ends with an error. That an error of the input is told so stands in `could` too: console, which both stand on,
+// knows nothing of inputs.
+fn print_answer(rt: &HostRuntime, answer: Result<Vec<u8>, InputError>) -> anyhow::Result<()>
+    ensures { OnErr answer (IsErr result) }
+{
+    match answer {
         Ok(book) => Ok(rt.stdout().write_all(&book)?),
         Err(InputError::Input(fault)) => console::tell(rt, fault.number(), fault.place(), fault),
         Err(InputError::NoMemory) => Err(anyhow!("there is not enough memory")),

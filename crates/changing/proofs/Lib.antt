@@ -1,4 +1,4 @@
-pub mod Gathered
+pub mod Tested
 pub mod Walked
 pub mod United
 pub mod Rounds

@@ -15,7 +15,7 @@ use Rattle.model.proofs.Steps.{given_has, given_had, given_new, given_well, remo
 use Rattle.spans.specs.Paths.{path_from, step_from}
 use Rattle.changing.specs.Reached.{of_some}
 use Rattle.changing.specs.Rounds.{rounds_of, begun_row, Shut}
-use Rattle.changing.proofs.Gathered.{some_to, some_from}
+use Rattle.changing.proofs.Tested.{some_to, some_from}
 use Rattle.changing.proofs.Rounds.{path_to, path_from-law, step_to, step_parts, rounds_lead}
 
 -- Paths depend on the number of vertices and on take rights alone.

@@ -15,7 +15,8 @@ use Rattle.spans.specs.Paths.{path_from}
 use Rattle.bits.proofs.Walk.{less_part}
 use Rattle.changing.specs.Reached.{of_some, leads_into, reached_from, giver, beside}
 use Rattle.changing.proofs.Rounds.{path_to, path_from-law}
-use Rattle.changing.proofs.Gathered.{some_to, some_from, not_all}
+use Rattle.bits.proofs.Gathered.{not_all}
+use Rattle.changing.proofs.Tested.{some_to, some_from}
 
 -- `entries` is where something can come to x, or to one of `out`.
 pub record Searching (s : State) (x : ℕ) (out entries : ℕ → Bool) : Type 0 where

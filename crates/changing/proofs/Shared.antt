@@ -9,7 +9,7 @@ use Rattle.model.proofs.Tests.{same, is_false, some_both, both_from}
 use Rattle.model.proofs.Readings.{subject_vertex, can_share-to}
 use Rattle.model.proofs.Least.{get_by_out}
 use Rattle.changing.specs.Reached.{of_some}
-use Rattle.changing.proofs.Gathered.{some_to, some_from}
+use Rattle.changing.proofs.Tested.{some_to, some_from}
 
 -- What x, which is there and has it not, can come to have is what O has; what is not there comes to have nothing.
 module _ (s : State) (wf : WellFormed s) (few : s.size < 256) (x r y : ℕ) where

@@ -10,7 +10,7 @@ use Rattle.spans.specs.Paths.{step_from}
 use Rattle.bits.proofs.Walk.{Without}
 use Rattle.changing.specs.Reached.{of_some}
 use Rattle.changing.specs.Rounds.{begun_row}
-use Rattle.changing.proofs.Gathered.{some_to, some_from}
+use Rattle.changing.proofs.Tested.{some_to, some_from}
 
 -- Row `into` has what the rows of those have that are not in `rest`; all other rows are as they were.
 pub record United (into : ℕ) (set : ℕ → Bool) (was rows : ℕ → ℕ → Bool) (rest : ℕ → Bool) : Type 0 where

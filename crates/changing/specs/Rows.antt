@@ -5,4 +5,4 @@ use Rattle.changing.specs.declared.rows.Rows.{Rows}
 
 -- Has row x the number y?
 abbrev pub in_rows : Rows → ℕ → ℕ → Bool
-in_rows r x y = cell r.words 4 x y
+in_rows r x y = cell r.words.now 4 x y

@@ -12,9 +12,9 @@ use crate::rows::Rows;
 use graph::Graph;
 
 #[derive(Drop)]
-pub struct ChangingGraph {
+pub struct ChangingGraph<'a> {
     graph: Graph,
     // Where take paths lead to from each vertex.
-    rows: Rows,
+    rows: Rows<'a>,
     ghost led: { (x y : ℕ) → in_rows rows x y ≡ path_from (state graph) x y },
 }

@@ -5,3 +5,4 @@ mod kept;
 mod rows;
 
 pub use kept::ChangingGraph;
+pub use rows::WORDS;

@@ -27,7 +27,7 @@ fn read_set(sheet: &mut Reader, size: u8) -> Result<VertexSet, CheckFault>
     })
 }
 
-// How many rules a witness has.
+// How many rules a witness has: two counts of a reader, since four bytes at once are read nowhere else.
 pub fn read_length(plan: &mut Reader) -> Result<u32, Fault>
     ensures { Reads result plan.old plan.new length_at }
 {

@@ -1,7 +1,7 @@
 // What can be wrong with an answer, each with its place.
-ghost use Rattle.checker.specs.Faults.{check_number, check_place, place_numbers};
+ghost use Rattle.checker.specs.Faults.{check_number, check_place, check_text, place_numbers, place_text};
 ghost use Rattle.checker.specs.declared.fault.CheckFault.TheVariants.{Input};
-ghost use Rattle.std.specs.Prelude.{◌≡◌};
+ghost use Rattle.std.specs.Prelude.{◌≡◌, Some};
 
 use codec::Fault;
 use model::{Right, Vertex};
@@ -103,6 +103,8 @@ impl From<Fault> for CheckFault {
 
 // The numbers of the place, with a space between.
 impl fmt::Display for Place {
+    ghost output = { λ place. Some (place_text place) };
+
     fn fmt<W: fmt::Write>(&self, f: &mut fmt::Formatter<W>) -> fmt::Result {
         match *self {
             Place::At(place) => write!(f, "{place}"),
@@ -113,6 +115,8 @@ impl fmt::Display for Place {
 
 // By hand, as codec's faults are.
 impl fmt::Display for CheckFault {
+    ghost output = { λ fault. Some (check_text fault) };
+
     fn fmt<W: fmt::Write>(&self, f: &mut fmt::Formatter<W>) -> fmt::Result {
         match *self {
             CheckFault::Input(fault) => write!(f, "{fault}"),

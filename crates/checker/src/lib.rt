@@ -16,7 +16,8 @@ pub use certificate::{Certificate, Claim};
 use codec::{Fault, Kind, Question, Reader, read_narrow_book};
 pub use fault::{CheckFault, Place};
 use graph::Graph;
-use witness::{apply_rules, longest_witness};
+use model::longest_witness;
+use witness::apply_rules;
 
 // Is the input a book, a question and a right answer to it? What passes is right by the model's definition, all that is right passes, and a right
 // certificate shows that the right comes about by no rules, whatever their number. The fault that is told is the first in the order of looking.

@@ -7,7 +7,7 @@ use Rattle.model.specs.State.{State}
 use Rattle.model.specs.Rules.{given}
 use Rattle.model.specs.declared.Rule.TheVariants.{Take, Grant, Create, Remove}
 use Rattle.graph.specs.Graphs.{bare}
-use Rattle.codec.specs.declared.book.Held.{Held}
+use Rattle.model.specs.declared.Held.{Held}
 use Rattle.codec.specs.declared.book.Layout.{Layout}
 use Rattle.codec.specs.declared.book.Layout.TheVariants.{Narrow, Wide}
 use Rattle.codec.specs.declared.fault.Fault.TheVariants.{UnknownKind, BadFlag, Missing, OutOfRange, NotRising}

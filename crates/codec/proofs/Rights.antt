@@ -4,7 +4,7 @@ use Rattle.std.proofs.lemmas.Bool.{cond-false}
 use Rattle.std.proofs.lemmas.Bool.Decides.{nat_tests}
 use Rattle.model.specs.State.{State}
 use Rattle.model.specs.Rules.{given}
-use Rattle.codec.specs.declared.book.Held.{Held}
+use Rattle.model.specs.declared.Held.{Held}
 use Rattle.codec.specs.Reading.{Read, ◌then◌, count_at}
 use Rattle.codec.specs.Books.{held_at, rights_at, past, first}
 use Rattle.codec.proofs.Inverted.{refused_not, Byte, ok_same, then_ok, then_on, below_read, below_ok, byte_read, byte_ok}

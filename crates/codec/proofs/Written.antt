@@ -1,17 +1,22 @@
 -- What one more right, row or vertex adds to the bytes of a book.
-use Rattle.std.proofs.Common.{◌≡◌, ℕ, zero, suc, ◌+◌, ◌≤◌, Bool, true, false, cond, List, [], ◌∷◌, ◌++◌, take, drop, Ok, Err, Result, sym, refl, ap, ◌∙◌, ap₂, inl, inr, add-one, arith}
+use Rattle.std.proofs.Common.{◌≡◌, ℕ, zero, suc, ◌*◌, ◌≤◌, Bool, true, false, cond, List, [], ◌∷◌, ◌++◌, take, drop, Ok, Err, Result, sym, refl, ap, ◌∙◌, ap₂, inl, inr, arith}
 use mathlib.Core.Path.{fun_ext}
 use Rattle.std.proofs.lemmas.List.{take_all}
 use Rattle.std.proofs.lemmas.Bool.{cases_eq, cond-false, le-leb}
 use Rattle.std.specs.List.{flat_map}
 use Rattle.std.proofs.lemmas.List.Concat.{flat_map-append}
-use Rattle.bits.specs.Sets.{set_bytes}
+use Rattle.bits.specs.Sets.{VertexSet, holds, set_bytes}
+use Rattle.bits.proofs.Below.{count_le}
 use Rattle.bits.proofs.Chain.{members_below}
 use Rattle.bits.proofs.Bytes.{lower_half, length_set_bytes}
 use Rattle.codec.specs.declared.book.Layout.TheVariants.{Narrow, Wide}
 use Rattle.codec.specs.Books.{layout_kind, set_width}
 use Rattle.model.specs.Bounded.{count_below}
 use Rattle.model.specs.State.{State}
+use Rattle.model.proofs.Tests.{is_false}
+use Rattle.graph.specs.declared.graph.Graph.{Graph}
+use Rattle.graph.specs.Graphs.{state}
+use Rattle.graph.proofs.Sound.{target_below, few_vertices}
 use Rattle.codec.specs.Writing.{row_bytes, count_held, head_bytes, Appended}
 
 -- Nothing is counted where nothing passes.
@@ -24,10 +29,18 @@ count_past n (suc m) f e h =
       | inr d ↦ cond-false (f m) _ _ (e m (omega arith)) ∙ count_past n m f e (omega arith)
     ]
 
-pub count_more : (s : State) (p r c m : ℕ) (f : ℕ → Bool) → ((k : ℕ) → f k ≡ s.has p r k) → ((k : ℕ) → s.size ≤ k → s.has p r k ≡ false) → s.size ≤ m → c ≡ count_held s p r → c + count_below m f ≡ count_held s p (r + 1)
+-- What is counted of a row of a graph.
+pub count_row : (g : Graph) (p r m : ℕ) (t : VertexSet) → ((k : ℕ) → holds t k ≡ (state g).has p r k) → m ≡ count_below 256 (holds t) → m ≡ count_below (state g).size ((state g).has p r)
+count_row g p r m t same e =
+    e ∙ ap (count_below 256) (fun_ext same)
+    ∙ count_past (state g).size 256 ((state g).has p r)
+    (λ k h. is_false ((state g).has p r k) (λ held. let l = target_below g p r k held in omega arith))
+    (let l = few_vertices g in omega arith)
+
+pub few_held : (s : State) (p k : ℕ) → count_held s p k ≤ k * s.size
 unfolding count_held
-count_more s p r c m f e past h i =
-    ap₂ (λ a b. a + b) i (ap (count_below m) (fun_ext e) ∙ count_past s.size m (s.has p r) past h) ∙ ap (count_held s p) (sym (add-one r))
+few_held s p zero = omega arith
+few_held s p (suc k) = omega (arith, few_held s p k, count_le s.size (s.has p k))
 
 -- A row, member by member.
 pub row_members : (r n : ℕ) (f : ℕ → Bool) → flat_map (λ q. r ∷ q ∷ []) (members_below n f) ≡ row_bytes r f n

@@ -9,7 +9,7 @@ use Rattle.codec.specs.declared.fault.Fault.{Fault}
 use Rattle.codec.specs.declared.fault.Fault.TheVariants.{UnknownKind, OutOfRange, NotRising}
 use Rattle.codec.specs.declared.book.Layout.{Layout}
 use Rattle.codec.specs.declared.book.Layout.TheVariants.{Narrow, Wide}
-use Rattle.codec.specs.declared.book.Held.{Held}
+use Rattle.model.specs.declared.Held.{Held}
 use Rattle.codec.specs.declared.reader.Reader.{Reader}
 use Rattle.codec.specs.Reading.{Read, ◌then◌, onward, byte_at, below_at, count_at}
 

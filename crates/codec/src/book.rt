@@ -11,7 +11,7 @@ use crate::kind::Kind;
 use crate::reader::Reader;
 use bits::VertexSet;
 use graph::Graph;
-use model::{NARROW, RIGHTS, Right, Vertex};
+use model::{Held, NARROW, RIGHTS, Vertex};
 
 // The two layouts of a book: for up to NARROW vertices, and for more.
 #[derive(Clone, Copy, PartialEq, Eq, Debug)]
@@ -30,13 +30,6 @@ impl Layout {
             Layout::Wide => 32,
         }
     }
-}
-
-// A right to a vertex, as a book lists them: in rising order, first by the right. Plans have such a pair too, without the order: one type for both would have to be handed on by two crates, and be no plainer.
-#[derive(Clone, Copy)]
-struct Held {
-    right: Right,
-    to: Vertex,
 }
 
 // The book with which the input begins, and the rest of the input.

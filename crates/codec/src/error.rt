@@ -35,9 +35,9 @@ impl From<AllocError> for InputError {
 impl<T: Drop> From<AllocFailed<T>> for InputError {
     ghost from_gives = { λ _ r. r ≡ NoMemory };
 
-    fn from(_e: AllocFailed<T>) -> InputError
+    fn from(e: AllocFailed<T>) -> InputError
         ensures { result ≡ InputError.NoMemory }
     {
-        InputError::NoMemory
+        InputError::from(AllocError::from(e))
     }
 }

@@ -1,6 +1,6 @@
 // What can be wrong with an input, each with its place.
-ghost use Rattle.codec.specs.Faults.{fault_number, fault_place};
-ghost use Rattle.std.specs.Prelude.{◌≡◌};
+ghost use Rattle.codec.specs.Faults.{fault_number, fault_place, fault_text};
+ghost use Rattle.std.specs.Prelude.{◌≡◌, Some};
 
 use std::fmt;
 
@@ -53,6 +53,8 @@ impl Fault {
 
 // By hand and not by a library's derive, so that who trusts the checker need read no more than this.
 impl fmt::Display for Fault {
+    ghost output = { λ fault. Some (fault_text fault) };
+
     fn fmt<W: fmt::Write>(&self, f: &mut fmt::Formatter<W>) -> fmt::Result {
         let place = self.place();
         match *self {

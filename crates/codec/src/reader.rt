@@ -7,7 +7,8 @@ use crate::fault::Fault;
 use crate::kind::Kind;
 
 // An input, and how far it is read. Each method that reads goes on behind what was read before it; after a fault there is no reading on.
-// How many vertices there are is told to each that asks for one, and is no field, since it changes from act to act.
+// How many vertices there are is told to each that asks for one, and is no field, since it changes from act to act; nor is the number of an act, which
+// only inputs with acts have.
 #[derive(Clone, Copy)]
 pub struct Reader<'a> {
     bytes: &'a [u8],

@@ -65,12 +65,7 @@ fn held_count(graph: &Graph, p: Vertex) -> usize
     ensures value { result ≡ count_held (state graph.now) p 8 }
     ensures bound { result ≤ 2048 }
 {
-    // Added up by hand: with `map` and `sum` the proof didn't close.
-    let mut count = 0;
-    for r in 0..RIGHTS {
-        count += graph.targets(p, r).count();
-    }
-    count
+    (0..RIGHTS).map(|r| graph.targets(p, r).count()).sum()
 }
 
 #[tactic(auto, unfolding(crate::specs::Writing::held_bytes))]

@@ -3,6 +3,9 @@
 // The first fault is told instead.
 #![tactic(auto)]
 
+ghost use Rattle.could.specs.Asks.{asks_of, files_of};
+ghost use Rattle.std.specs.Prelude.{◌≡◌, IsErr, IsSome, OnErr};
+
 use answers::{Answers, InputError, sharing_table};
 use anyhow::anyhow;
 use console::Request;
@@ -35,26 +38,49 @@ fn main(rt: HostRuntime) -> anyhow::Result<()> {
 }
 
 fn run(rt: &HostRuntime) -> anyhow::Result<()> {
-    let (files, output) = match console::read_writing_request(rt)? {
+    let (words, output) = match console::read_writing_request(rt)? {
         Request::Help => return Ok(rt.print(HELP)?),
         Request::Run { files, output } => (files, output),
     };
-    match files.as_slice() {
-        [first, rest @ ..] if first.as_str() == "all" => print_table(rt, rest, &output),
-        [first, rest @ ..] if first.as_str() == "after" => answer(
+    let (asks, files) = split(&words);
+    match asks {
+        Asks::All => count(rt, files, &output),
+        Asks::After => answer(
             rt,
-            rest,
+            files,
             &output,
             |heap, input| history::answer_lines(heap, input),
             |heap, input| history::answer_records(heap, input),
         ),
-        all => answer(
+        Asks::Once => answer(
             rt,
-            all,
+            files,
             &output,
             |heap, input| answers::answer_lines(heap, input),
             |heap, input| answers::answer_records(heap, input),
         ),
+    }
+}
+
+// What is asked for.
+#[derive(Clone, Copy)]
+enum Asks {
+    // Answers about the book as it is.
+    Once,
+    // Answers about the book as it is after the acts before each question.
+    After,
+    // How many could have what.
+    All,
+}
+
+// What the first word asks for, if it is none of the files, and the files.
+fn split(words: &[String]) -> (Asks, &[String])
+    ensures { (result.0 ≡ asks_of words.now) × (result.1.now ≡ files_of words.now) }
+{
+    match words {
+        [first, files @ ..] if first.as_str() == "all" => (Asks::All, files),
+        [first, files @ ..] if first.as_str() == "after" => (Asks::After, files),
+        files => (Asks::Once, files),
     }
 }
 
@@ -78,8 +104,10 @@ where
     }
 }
 
-// What is printed differs, and so each of the three prints its own; that a fault is told instead is one line in each.
-fn print_lines(rt: &HostRuntime, answered: Result<Vec<u8>, InputError>) -> anyhow::Result<()> {
+// What is printed differs, and so each of the three prints its own; that a fault is told instead, and the program ends with an error, is one line in each.
+fn print_lines(rt: &HostRuntime, answered: Result<Vec<u8>, InputError>) -> anyhow::Result<()>
+    ensures { OnErr answered (IsErr result) }
+{
     match answered {
         Ok(lines) => Ok(rt.stdout().write_all(&lines)?),
         Err(error) => tell(rt, error),
@@ -90,8 +118,10 @@ fn print_lines(rt: &HostRuntime, answered: Result<Vec<u8>, InputError>) -> anyho
 fn print_records(
     rt: &HostRuntime,
     answered: Result<Answers, InputError>,
-    file: &String,
-) -> anyhow::Result<()> {
+    file: &str,
+) -> anyhow::Result<()>
+    ensures { OnErr answered (IsErr result) }
+{
     match answered {
         Ok(answers) => {
             console::write_output(rt, file, &answers.records)?;
@@ -101,21 +131,32 @@ fn print_records(
     }
 }
 
-fn print_table(rt: &HostRuntime, files: &[String], output: &Option<String>) -> anyhow::Result<()> {
+fn print_table(rt: &HostRuntime, answered: Result<String, InputError>) -> anyhow::Result<()>
+    ensures { OnErr answered (IsErr result) }
+{
+    match answered {
+        Ok(table) => Ok(rt.print(table.as_str())?),
+        Err(error) => tell(rt, error),
+    }
+}
+
+// How many could have what. No file is written.
+fn count(rt: &HostRuntime, files: &[String], output: &Option<String>) -> anyhow::Result<()>
+    ensures { IsSome output.now → IsErr result }
+{
     if output.is_some() {
         return Err(anyhow!(
             "could all has no answers to write; --help says how to use this program"
         ));
     }
     let input = console::read_input(rt, files)?;
-    match sharing_table(rt.alloc(), &input) {
-        Ok(table) => Ok(rt.print(table.as_str())?),
-        Err(error) => tell(rt, error),
-    }
+    print_table(rt, sharing_table(rt.alloc(), &input))
 }
 
 // Also in `book`: console, which both stand on, knows nothing of what is wrong with an input.
-fn tell(rt: &HostRuntime, error: InputError) -> anyhow::Result<()> {
+fn tell(rt: &HostRuntime, error: InputError) -> anyhow::Result<()>
+    ensures { IsErr result }
+{
     match error {
         InputError::Input(fault) => console::tell(rt, fault.number(), fault.place(), fault),
         InputError::NoMemory => Err(anyhow!("there is not enough memory")),

@@ -1,12 +1,13 @@
 -- A graph stands for a well-formed state, whose subjects and rights are among those that there are.
-use Rattle.std.proofs.Common.{◌≡◌, ℕ, get_or, [], length, Ok, Err, ◌<◌, Bool, true, false, cond, ◌&&◌, T, eqb, ltb, sym, ap, ◌∙◌, subst, ltb→lt, lt→ltb}
+use Rattle.std.proofs.Common.{◌≡◌, ℕ, ◌+◌, ◌*◌, Ok, Err, ◌<◌, Bool, true, false, cond, ◌&&◌, T, eqb, ltb, sym, ap, ◌∙◌, subst, ltb→lt, lt→ltb}
 use Rattle.model.specs.State.{WellFormed, is_vertex, is_subject, take_right, grant_right}
 use Rattle.model.specs.Rules.{applicable}
 use Rattle.model.specs.declared.Rule.{Rule}
 use Rattle.model.specs.declared.Rule.TheVariants.{Take, Grant, Create, Remove}
 use Rattle.model.proofs.Tests.{both, parts, same}
 use Rattle.graph.specs.Graphs.{state, entitled, creates, answer}
-use Rattle.graph.specs.Table.{in_row, in_table}
+use Rattle.bits.specs.Rows.{cell}
+use Rattle.graph.specs.Table.{in_table, row_width}
 use Rattle.model.specs.declared.Take.{Take as TakeRule}
 use Rattle.model.specs.declared.Grant.{Grant as GrantRule}
 use Rattle.model.specs.declared.Create.{Create as CreateRule}
@@ -14,21 +15,17 @@ use Rattle.model.specs.declared.Remove.{Remove as RemoveRule}
 use Rattle.graph.specs.declared.graph.Graph.{Graph}
 use Rattle.graph.specs.declared.refusal.Refusal.TheVariants.{NotApplicable, Full}
 
--- A right below 8 has a row.
-pub eight : (g : Graph) (p r : ℕ) → p < length g.rows → r < 8 → r < length (get_or g.rows p [])
-eight g p r h l = subst (λ n. r < n) (sym (g.whole p h)) l
-
 pub right_below : (g : Graph) (p r q : ℕ) → T ((state g).has p r q) → r < 8
 unfolding state in_table
-right_below g p r q t = ltb→lt r 8 (parts (ltb r 8) (in_row (get_or g.rows p []) r q) t).0
+right_below g p r q t = ltb→lt r 8 (parts (ltb r 8) (cell g.rows (row_width g.size) (8 * p + r) q) t).0
 
 pub holder_below : (g : Graph) (p r q : ℕ) → T ((state g).has p r q) → p < (state g).size
-unfolding state in_table
+unfolding state
 holder_below g p r q t =
     (g.held p r q t).0
 
 pub target_below : (g : Graph) (p r q : ℕ) → T ((state g).has p r q) → q < (state g).size
-unfolding state in_table
+unfolding state
 target_below g p r q t = (g.held p r q t).1
 
 pub subject_below : (g : Graph) (p : ℕ) → T ((state g).subject p) → p < (state g).size

@@ -2,12 +2,14 @@
 mod apply;
 mod build;
 mod query;
+mod rows;
 
-ghost use Rattle.std.specs.Prelude.{◌<◌};
-ghost use Rattle.graph.specs.Table.{EachWhole, SubjectsFit, RowsFit};
+ghost use Rattle.std.specs.Prelude.{◌≡◌, ◌<◌, length};
+ghost use Rattle.graph.specs.Table.{SubjectsFit, RowsFit};
 
-use bits::VertexSet;
+use bits::{VertexSet, WIDE};
 use model::{NUMBERS, RIGHTS};
+pub use rows::width;
 
 // The most vertices of a graph, so that a byte numbers each and their count fits one too.
 const MOST: u8 = 255;
@@ -15,16 +17,19 @@ const MOST: u8 = 255;
 // A row for each right.
 const ROWS: usize = RIGHTS as usize;
 
+// Room for rows as wide as they can be.
+const WORDS: usize = WIDE * ROWS * NUMBERS;
+
 // A fixed table with its size beside it: rules cost no allocation, and a graph can be made where memory is short.
 #[derive(Drop)]
 pub struct Graph {
     size: u8,
     subjects: VertexSet,
-    // Whom a vertex has each right to.
-    rows: [[VertexSet; ROWS]; NUMBERS],
+    // Whom a vertex has each right to, in rows of two words for up to 128 vertices and of four for more, so that what is looked at lies near.
+    rows: [u64; WORDS],
     ghost some: { 0 < size },
     ghost few: { size < 256 },
     ghost acting: { SubjectsFit size subjects },
-    ghost whole: { EachWhole rows },
+    ghost whole: { length rows ≡ 8192 },
     ghost held: { RowsFit size rows },
 }

@@ -7,5 +7,5 @@ mod graph;
 mod refusal;
 
 pub use apply::Apply;
-pub use graph::Graph;
+pub use graph::{Graph, width};
 pub use refusal::Refusal;

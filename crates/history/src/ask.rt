@@ -6,6 +6,7 @@ ghost use Rattle.history.specs.Promised.{Promised, PromisedWith};
 
 use crate::reading::Reading;
 use answers::{Answers, line};
+use changing::{ChangingGraph, WORDS};
 use codec::{InputError, NARROW};
 use std::alloc::Global;
 use witness::{Routes, longest_answer};
@@ -14,10 +15,12 @@ use witness::{Routes, longest_answer};
 pub fn answer_lines(heap: Global, bytes: &[u8]) -> Result<Vec<u8>, InputError>
     ensures { MatchResult result (λ v. Promised bytes.now v.items) (λ e. IsRefusedSo e (posed bytes.now)) }
 {
-    let mut reading = Reading::of(bytes)?;
+    let (graph, mut reading) = Reading::of(bytes)?;
+    let mut words = [0; WORDS];
+    let mut book = ChangingGraph::of(graph, &mut words);
     let mut lines = Vec::new(heap);
-    while let Some(question) = reading.next_question()? {
-        lines.extend_from_slice(line(reading.book().can_share(question)))?;
+    while let Some(question) = reading.next_question(&mut book)? {
+        lines.extend_from_slice(line(book.can_share(question)))?;
     }
     Ok(lines)
 }
@@ -26,11 +29,13 @@ pub fn answer_lines(heap: Global, bytes: &[u8]) -> Result<Vec<u8>, InputError>
 pub fn answer_records(heap: Global, bytes: &[u8]) -> Result<Answers, InputError>
     ensures { MatchResult result (λ a. PromisedWith bytes.now a.lines.items a.records.items) (λ e. IsRefusedSo e (posed bytes.now)) }
 {
-    let mut reading = Reading::of(bytes)?;
+    let (graph, mut reading) = Reading::of(bytes)?;
+    let mut words = [0; WORDS];
+    let mut book = ChangingGraph::of(graph, &mut words);
     let mut room = vec![in heap; 0; longest_answer(NARROW)]?;
     let mut answers = Answers::new(heap);
-    while let Some(question) = reading.next_question()? {
-        answers.add(&Routes::of(reading.book().graph()), question, &mut room)?;
+    while let Some(question) = reading.next_question(&mut book)? {
+        answers.add(&Routes::of(book.graph()), question, &mut room)?;
     }
     Ok(answers)
 }

@@ -4,6 +4,9 @@
 
 mod theorems;
 
+ghost use Rattle.model.specs.Promise.{longest_witness_len};
+ghost use Rattle.std.specs.Prelude.{◌≡◌};
+
 pub use theorems::{
     bridges_exchange, certificates_decide, closures_complete, connected_both_ways, exact_witness,
     examples_hold, new_vertex_shared, promise, promise_for_some, rules_make_nothing_new,
@@ -74,10 +77,25 @@ pub enum Rule {
     Remove(Remove),
 }
 
+// A right to a vertex, whoever has it.
+#[derive(Clone, Copy, PartialEq, Eq, Debug)]
+pub struct Held {
+    pub right: Right,
+    pub to: Vertex,
+}
+
 // Could `holder` come to have this right to `target`?
 #[derive(Clone, Copy, PartialEq, Eq, Debug)]
 pub struct Question {
     pub holder: Vertex,
     pub right: Right,
     pub target: Vertex,
+}
+
+// The most rules of a witness for a graph of so many vertices: none has to be longer.
+pub fn longest_witness(size: u8) -> u32
+    ensures { result ≡ longest_witness_len size }
+{
+    let n = u32::from(size) + 2;
+    8 * n * n
 }

@@ -3,7 +3,7 @@ use Rattle.std.proofs.Common.{◌≡◌, ℕ, ◌+◌, ◌/◌, ◌%◌, Bool, t
 use Rattle.std.proofs.lemmas.Bool.{cases_eq}
 use Rattle.std.proofs.lemmas.Bool.Decides.{nat_tests}
 use Rattle.model.specs.State.{State, grant_right}
-use Rattle.sharing.specs.Table.{held_by, spreads}
+use Rattle.sharing.specs.Table.{gets, held_by, spreads}
 
 module _ (s : State) (inner out : ℕ → Bool) (was : ℕ → ℕ → Bool) where
   abbrev pub Brought : (ℕ → ℕ → Bool) → ℕ → Type 0
@@ -21,7 +21,7 @@ module _ (s : State) (inner out : ℕ → Bool) (was : ℕ → ℕ → Bool) whe
       (cells next : ℕ → ℕ → Bool) (who targets : ℕ → Bool) (r : ℕ) → ((x : ℕ) → who x ≡ (inner x || held_by s out grant_right x)) →
       ((y : ℕ) → targets y ≡ held_by s out r y) →
       ((i x : ℕ) → next i x ≡ (cells i x || ((eqb (i % 8) r && targets (i / 8)) && who x))) → Brought cells r → Brought next (r + 1)
-  unfolding spreads
+  unfolding spreads gets
   brought_more cells next who targets r e f step inv i x =
       law (i % 8) (was i x) (cells i x) (next i x) ((inner x || held_by s out grant_right x) && held_by s out (i % 8) (i / 8)) (inv i x) (step i x ∙ ap (λ b. cells i x || b) here)
     where

@@ -1,10 +1,11 @@
 -- The table's rows become what they are to be, step by step.
-use Rattle.std.proofs.Common.{◌≡◌, ℕ, ◌+◌, ◌*◌, ◌/◌, ◌<◌, ◌≤◌, Bool, true, false, cond, ◌&&◌, ltb, length, refl, ap, ◌∙◌, inl, inr, arith}
-use Rattle.std.proofs.lemmas.Bool.{cases_lt, le-ltb}
+use Rattle.std.proofs.Common.{◌≡◌, ℕ, ◌+◌, ◌*◌, ◌/◌, ◌<◌, ◌≤◌, Bool, true, false, ◌&&◌, ◌||◌, T, leb, ltb, length, refl, ap, ◌∙◌, inl, inr, arith}
+use Rattle.std.proofs.lemmas.Bool.{cases_lt, lt-ltb, le-ltb}
 use Rattle.std.proofs.lemmas.Bool.Decides.{nat_tests}
 use Rattle.graph.specs.Graphs.{state}
 use Rattle.model.specs.State.{State}
-use Rattle.sharing.specs.Filling.{about, placed, Becomes}
+use Rattle.sharing.specs.Filling.{about, added, placed, Becomes}
+use Rattle.sharing.specs.Table.{has_row}
 use Rattle.sharing.specs.declared.table.Table.{Table}
 use Rattle.sharing.proofs.Holding.{row_fits}
 
@@ -32,23 +33,28 @@ pub placed_by : (s : State) (p h k was : ℕ → ℕ → Bool) (i x : ℕ) → (
 placed_by s p h k was i x e =
     elim (cases_lt (i / 8) s.size) [
       | inl l ↦ by_test (p i x) (λ t. e t l)
-      | inr l ↦ let n = le-ltb (i / 8) s.size l in nothing (p i x) (ltb (i / 8) s.size) n
+      | inr l ↦ let n = le-ltb (i / 8) s.size l in nothing (was i x) (p i x) (ltb (i / 8) s.size) (h i x) (k i x) n
     ]
   where
-    by_test : (b : Bool) → (b ≡ true → h i x ≡ k i x) → cond (b && ltb (i / 8) s.size) (h i x) (was i x) ≡ cond (b && ltb (i / 8) s.size) (k i x) (was i x)
-    by_test true f = ap (λ v. cond (ltb (i / 8) s.size) v (was i x)) (f refl)
+    by_test : (b : Bool) → (b ≡ true → h i x ≡ k i x) → (was i x || ((b && ltb (i / 8) s.size) && h i x)) ≡ (was i x || ((b && ltb (i / 8) s.size) && k i x))
+    by_test true f = ap (λ v. was i x || (ltb (i / 8) s.size && v)) (f refl)
     by_test false f = refl
 
-    nothing : (b n : Bool) → n ≡ false → cond (b && n) (h i x) (was i x) ≡ cond (b && n) (k i x) (was i x)
-    nothing b n e = grind (arith, nat_tests)
+    nothing : (w b n h k : Bool) → n ≡ false → (w || ((b && n) && h)) ≡ (w || ((b && n) && k))
+    nothing w b n h k e = grind (arith, nat_tests)
 
 module _ (s : State) (p q h was : ℕ → ℕ → Bool) (i x : ℕ) where
   pub placed_same : p i x ≡ q i x → placed s p h was i x ≡ placed s q h was i x
-  placed_same e = ap (λ b. cond (b && ltb (i / 8) s.size) (h i x) (was i x)) e
+  placed_same e = ap (λ b. was i x || ((b && ltb (i / 8) s.size) && h i x)) e
 
-  -- Where neither has anything, it doesn't matter which is taken.
-  pub placed_nothing : h i x ≡ false → was i x ≡ false → placed s p h was i x ≡ placed s q h was i x
-  placed_nothing e f = law (p i x) (q i x) (ltb (i / 8) s.size) (h i x) (was i x) e f
-    where
-      law : (a b n h v : Bool) → h ≡ false → v ≡ false → cond (a && n) h v ≡ cond (b && n) h v
-      law a b n h v e f = grind (arith, nat_tests)
+-- Where there is something only in rows to vertices that are there, it needs no test.
+pub placed_added : (s : State) (p q was : ℕ → ℕ → Bool) (i x : ℕ) → (T (has_row s i x) → (i / 8 < s.size) × (p i x ≡ q i x)) → placed s p (has_row s) was i x ≡ added s q was i x
+placed_added s p q was i x f = law (has_row s i x) (p i x) (q i x) (was i x) f
+  where
+    law : (h a b w : Bool) → (T h → (i / 8 < s.size) × (a ≡ b)) → (w || ((a && ltb (i / 8) s.size) && h)) ≡ (w || (b && h))
+    law true a b w f = let n = lt-ltb (i / 8) s.size (f tt).0 in let e = (f tt).1 in grind (arith, nat_tests)
+    law false a b w f = grind (arith, nat_tests)
+
+-- Of no rights, nothing is added.
+pub none_yet : (k f : ℕ) (w b p h : Bool) → w ≡ (w || ((((leb f k && ltb k f) && b) && p) && h))
+none_yet k f w b p h = grind (arith, nat_tests)

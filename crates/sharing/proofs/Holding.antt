@@ -1,5 +1,6 @@
 -- Where the rows of the table are, and what is past their ends.
-use Rattle.std.proofs.Common.{◌≡◌, ℕ, ◌+◌, ◌*◌, ◌/◌, ◌%◌, ◌<◌, ◌≤◌, Bool, false, ◌&&◌, eqb, ltb, ap, ◌∙◌, ap₂, arith}
+use Rattle.std.proofs.Common.{◌≡◌, ℕ, ◌+◌, ◌*◌, ◌/◌, ◌%◌, ◌<◌, ◌≤◌, Bool, true, false, ◌&&◌, eqb, ltb, ap, ◌∙◌, ap₂, arith}
+use Rattle.std.proofs.lemmas.Bool.{lt-ltb}
 use Rattle.std.proofs.lemmas.Bool.Decides.{nat_tests}
 use Rattle.bits.proofs.Cell.{rows_apart}
 use Rattle.graph.specs.Graphs.{state}
@@ -7,6 +8,7 @@ use Rattle.graph.specs.declared.graph.Graph.{Graph}
 use Rattle.graph.proofs.Sound.{holder_below, target_below}
 use Rattle.model.proofs.Tests.{is_false}
 use Rattle.spans.proofs.Resized.{within}
+use Rattle.sharing.specs.Filling.{of_links}
 use Rattle.sharing.specs.Table.{has_row}
 
 -- Row 8 y + r, of a right r to a vertex y.
@@ -25,11 +27,14 @@ pub past_holder : (g : Graph) (i x : ℕ) → (state g).size ≤ x → has_row (
 unfolding has_row
 past_holder g i x h = is_false _ (λ t. let l = holder_below g x (i % 8) (i / 8) t in omega arith)
 
--- The row of a right to each vertex that is there is who has it.
-pub held_rows : (g : Graph) (r : ℕ) → r < 8 → (rows : ℕ → ℕ → Bool) → ((i x : ℕ) → rows i x ≡ has_row (state g) i x) → (y x : ℕ) → (ltb y (state g).size && rows (8 * y + r) x) ≡ (state g).has x r y
+-- The row of a link to each vertex that is there is who has it.
+pub held_rows :
+    (g : Graph) (r : ℕ) → r < 2 → (rows : ℕ → ℕ → Bool) → ((i x : ℕ) → rows i x ≡ (of_links i && has_row (state g) i x)) → (y x : ℕ) →
+    (ltb y (state g).size && rows (8 * y + r) x) ≡ (state g).has x r y
 unfolding has_row
 held_rows g r h rows held y x =
     let right : (8 * y + r) % 8 ≡ r = omega arith in
     let target : (8 * y + r) / 8 ≡ y = omega arith in
-    ap (λ b. ltb y (state g).size && b) (held (8 * y + r) x ∙ ap₂ (λ a b. (state g).has x a b) right target)
+    let link : of_links (8 * y + r) ≡ true = lt-ltb ((8 * y + r) % 8) 2 (omega arith) in
+    ap (λ b. ltb y (state g).size && b) (held (8 * y + r) x ∙ ap₂ (λ b h. b && h) link (ap₂ (λ a b. (state g).has x a b) right target))
     ∙ within y (state g).size ((state g).has x r y) (λ t. target_below g x r y t)

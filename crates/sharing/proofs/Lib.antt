@@ -1,4 +1,3 @@
-pub mod Zeros
 pub mod Holding
 pub mod Filling
 pub mod Gathered

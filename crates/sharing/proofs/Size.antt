@@ -3,12 +3,12 @@ use Rattle.std.proofs.Common.{◌≡◌, ℕ, ◌+◌, ◌*◌, ◌/◌, ◌%◌
 use Rattle.std.proofs.lemmas.Bool.{cases_lt}
 use Rattle.model.specs.State.{State}
 use Rattle.model.specs.Sharing.{can_share}
-use Rattle.spans.specs.Paths.{row_words}
+use Rattle.graph.specs.Table.{row_width}
 use Rattle.spans.proofs.Wide.{words_few, words_many}
 use Rattle.sharing.specs.Table.{shares_row, table_words}
 use Rattle.sharing.proofs.Holding.{row_fits}
 
-pub table_is : (n w : ℕ) → w ≡ row_words n → 8 * n * w ≡ table_words n
+pub table_is : (n w : ℕ) → w ≡ row_width n → 8 * n * w ≡ table_words n
 unfolding table_words
 table_is n w e = ap (λ v. 8 * n * v) e
 
@@ -25,7 +25,7 @@ table_most n h =
       | inr l ↦ omega (arith, table_few n l)
     ]
 
-pub row_there : (n w l y r : ℕ) → w ≡ row_words n → table_words n ≤ l → y < n → r < 8 → (8 * y + r) * w + w ≤ l
+pub row_there : (n w l y r : ℕ) → w ≡ row_width n → table_words n ≤ l → y < n → r < 8 → (8 * y + r) * w + w ≤ l
 row_there n w l y r e h a b = row_fits n w l y r (subst (λ m. m ≤ l) (sym (table_is n w e)) h) a b
 
 -- What row 8 y + r says.

@@ -1,15 +1,14 @@
 -- Spans, from take paths that lead back.
-use Rattle.std.proofs.Common.{◌≡◌, ℕ, ◌<◌, Bool, true, false, not, ◌&&◌, ◌||◌, T, eqb, ltb, sym, ap, ◌∙◌, subst, ap₂, inl, inr, arith, ltb→lt}
+use Rattle.std.proofs.Common.{◌≡◌, ℕ, ◌<◌, ◌≤◌, Bool, true, ◌&&◌, ◌||◌, T, eqb, ltb, sym, ap, ◌∙◌, inl, inr, arith, ltb→lt}
 use mathlib.Core.Path.{fun_ext}
 use Rattle.std.proofs.lemmas.Bool.{cases_Bool, and_parts}
 use Rattle.std.proofs.lemmas.Bool.Decides.{nat_tests}
-use Rattle.bits.proofs.Walk.{Without}
+use Rattle.bits.proofs.Gathered.{some_narrow}
 use Rattle.model.specs.State.{State, is_subject, is_vertex}
 use Rattle.model.specs.Bounded.{some_below}
 use Rattle.model.specs.Spans.{take_path, can_grant, initial_span, terminal_span}
-use Rattle.model.proofs.Tests.{parts, from_true}
+use Rattle.model.proofs.Tests.{parts}
 use Rattle.spans.specs.Paths.{path_from, back_from}
-use Rattle.spans.proofs.Walking.{some_without, some_nobody}
 
 module _ (s : State) where
   -- From a subject, whose number is a vertex's.
@@ -42,29 +41,13 @@ module _ (s : State) where
   unfolding path_from
   path_vertex x y = grind (arith, nat_tests)
 
-  -- Of those that have grant to x, all were looked at but those in `rest`.
-  abbrev pub Backing : ℕ → (ℕ → Bool) → (ℕ → Bool) → Type 0
-  Backing x set rest = ((u : ℕ) → T (rest u) → u < s.size) × ((q : ℕ) → (set q || some_below s.size (λ u. rest u && path_from s q u)) ≡ back_from s x q)
-
-  pub backing_none :
-      (x : ℕ) (set rest : ℕ → Bool) → ((q : ℕ) → set q ≡ eqb q x) → ((u : ℕ) → T (rest u) → u < s.size) → ((u : ℕ) → rest u ≡ can_grant s u x) →
-      Backing x set rest
+  -- Who is x, and from where take paths lead to one of those that have grant to x.
+  pub back_from_is :
+      (x : ℕ) (givers : ℕ → Bool) → s.size ≤ 256 → ((u : ℕ) → givers u ≡ can_grant s u x) → ((u : ℕ) → T (can_grant s u x) → u < s.size) → (q : ℕ) →
+      (some_below 256 (λ u. givers u && path_from s q u) || eqb q x) ≡ back_from s x q
   unfolding back_from
-  backing_none x set rest one below same =
-      (below, λ q. ap₂ (λ a b. a || some_below s.size b) (one q) (fun_ext (λ u. let a = same u in grind (arith, nat_tests))))
-
-  pub backing_more :
-      (x : ℕ) (set next to rest rest' : ℕ → Bool) (u : ℕ) → rest u ≡ true → Without u rest rest' → ((q : ℕ) → to q ≡ path_from s q u) →
-      ((q : ℕ) → next q ≡ (set q || to q)) → Backing x set rest → Backing x next rest'
-  backing_more x set next to rest rest' u t w e f inv = (
-    λ v h. inv.0 v (parts (not (eqb v u)) _ (subst T (w v) h)).1,
-    λ q.
-        let a = f q in
-        let b = e q in
-        let c = inv.1 q in
-        let d = some_without s.size u (path_from s q) rest rest' (λ _. inv.0 u (from_true _ t)) t w in
-        grind (arith, nat_tests),
-  )
-
-  pub backing_all : (x : ℕ) (set rest : ℕ → Bool) → ((u : ℕ) → rest u ≡ false) → Backing x set rest → (q : ℕ) → set q ≡ back_from s x q
-  backing_all x set rest none inv q = let a = inv.1 q in let b = some_nobody s.size (path_from s q) rest none in grind (arith, nat_tests)
+  back_from_is x givers few same below q =
+      let narrow : some_below 256 (λ u. givers u && path_from s q u) ≡ some_below s.size (λ u. path_from s q u && can_grant s u x) =
+      some_narrow 256 s.size _ _ few (λ u. let a = same u in grind (arith, nat_tests)) (λ u t. below u (parts (path_from s q u) _ t).1)
+      in
+      grind (arith, nat_tests)

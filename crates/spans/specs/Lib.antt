@@ -1,5 +1,6 @@
 pub mod Paths
 pub mod Sets
+pub mod Barriers
 pub mod Fronts
 pub mod Searching
 pub mod Of

@@ -1,12 +1,8 @@
--- Rows of take paths: how wide a row is, what it starts as, and how rounds of a closure make it grow.
-use Rattle.std.specs.Prelude.{ℕ, zero, suc, Bool, cond, ◌&&◌, ◌||◌, ◌==◌, nat_le, nat_lt}
+-- Rows of take paths: what a row starts as, and how rounds of a closure make it grow.
+use Rattle.std.specs.Prelude.{ℕ, zero, suc, Bool, ◌&&◌, ◌||◌, ◌==◌, nat_lt}
 use Rattle.model.specs.State.{State, is_vertex}
 use Rattle.model.specs.Bounded.{some_below}
 use Rattle.model.specs.Spans.{take_path, can_take, can_grant}
-
--- The words of a row for so many vertices.
-unfoldable pub row_words : ℕ → ℕ
-row_words n = cond (nat_le n 128) 2 4
 
 -- A take path leads from the vertex x to y.
 unfoldable pub path_from : State → ℕ → ℕ → Bool

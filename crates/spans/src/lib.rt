@@ -6,12 +6,11 @@ mod closure;
 mod front;
 mod links;
 mod paths;
-mod rows;
 mod turned;
 
 pub use barrier::Barrier;
 pub use closure::lead;
-pub use links::{Links, WideLinks};
+pub use graph::width;
+pub use links::{Links, reach};
 pub use paths::TakePaths;
-pub use rows::width;
 pub use turned::holders;

@@ -3,27 +3,22 @@ mod query;
 mod search;
 mod view;
 
-ghost use Rattle.std.specs.Prelude.{◌≡◌, ℕ, ◌*◌, ◌≤◌, length};
+ghost use Rattle.std.specs.Prelude.{◌≡◌, ℕ, length};
 ghost use Rattle.graph.specs.Graphs.{state};
-ghost use Rattle.spans.specs.Sets.{in_sets};
+ghost use Rattle.graph.specs.Table.{in_row};
 
-use bits::BitSet;
+use bits::VertexSet;
 use graph::Graph;
 use model::NUMBERS;
+pub use search::reach;
 
-// In sets of W words, which have room for each vertex.
 #[derive(Drop)]
-pub struct WideLinks<'a, const W: usize> {
+pub struct Links<'a> {
     graph: &'a Graph,
     // Who has take to a vertex, and who has grant to it.
-    takers: [BitSet<W>; NUMBERS],
-    granters: [BitSet<W>; NUMBERS],
+    takers: [VertexSet; NUMBERS],
+    granters: [VertexSet; NUMBERS],
     ghost all: { (length takers ≡ 256) × (length granters ≡ 256) },
-    ghost wide: { (state graph.now).size ≤ 64 * W },
-    ghost narrow: { W ≤ 4 },
-    ghost taken: { (y k : ℕ) → in_sets takers y k ≡ (state graph.now).has k 0 y },
-    ghost granted: { (y k : ℕ) → in_sets granters y k ≡ (state graph.now).has k 1 y },
+    ghost taken: { (y k : ℕ) → in_row takers y k ≡ (state graph.now).has k 0 y },
+    ghost granted: { (y k : ℕ) → in_row granters y k ≡ (state graph.now).has k 1 y },
 }
-
-// In sets of four words, which have room for the vertices of any graph.
-pub type Links<'a> = WideLinks<'a, 4>;

@@ -1,6 +1,6 @@
 // Rules applied to changing graphs, and questions in between.
 use bits::VertexSet;
-use changing::ChangingGraph;
+use changing::{ChangingGraph, WORDS};
 use graph::{Graph, Refusal};
 use model::{Create, GRANT, Grant, Question, Remove, Rule, TAKE, Take};
 use sharing::Sharing;
@@ -9,7 +9,7 @@ use std::test::Fail;
 
 const READ: u8 = 2;
 
-fn made(size: u8, acting: &[u8], rights: &[[u8; 3]]) -> Option<ChangingGraph> {
+fn made(size: u8, acting: &[u8], rights: &[[u8; 3]]) -> Option<Graph> {
     let mut subjects = VertexSet::empty();
     for v in acting {
         subjects.insert(*v);
@@ -18,7 +18,7 @@ fn made(size: u8, acting: &[u8], rights: &[[u8; 3]]) -> Option<ChangingGraph> {
     for right in rights {
         graph.give(right[0], right[1], right[2]);
     }
-    Some(ChangingGraph::of(graph))
+    Some(graph)
 }
 
 fn take(who: u8, from: u8, right: u8, to: u8) -> Rule {
@@ -93,7 +93,7 @@ fn renews(rt: &impl Abort, renewed: Result<VertexSet, Refusal>, rows: &[u8]) {
 // 0 takes from 1, 1 from the object 3, 3 from 4, and 4 reads 5; 2 may grant to 1.
 #[test]
 fn a_chain_of_acts(rt: HostRuntime) -> Result<(), Fail> {
-    let Some(mut book) = made(
+    let Some(graph) = made(
         6,
         &[0, 1, 2],
         &[
@@ -107,6 +107,8 @@ fn a_chain_of_acts(rt: HostRuntime) -> Result<(), Fail> {
     ) else {
         return Err(Fail::new("no graph"));
     };
+    let mut words = [7; WORDS];
+    let mut book = ChangingGraph::of(graph, &mut words);
     assert!(rt; book.can_share(question(0, READ, 5)) && as_anew(&book));
     // A path from 0 to 3 was there, but not the right.
     renews(&rt, book.apply(take(0, 1, TAKE, 3)), &[0]);
@@ -125,7 +127,7 @@ fn a_chain_of_acts(rt: HostRuntime) -> Result<(), Fail> {
 // 0 takes from 1, 1 from 2, 2 from 0; only 3, which 2 takes from, reads 4.
 #[test]
 fn a_cycle_cut_open(rt: HostRuntime) -> Result<(), Fail> {
-    let Some(mut book) = made(
+    let Some(graph) = made(
         5,
         &[0, 1, 2],
         &[
@@ -138,6 +140,8 @@ fn a_cycle_cut_open(rt: HostRuntime) -> Result<(), Fail> {
     ) else {
         return Err(Fail::new("no graph"));
     };
+    let mut words = [7; WORDS];
+    let mut book = ChangingGraph::of(graph, &mut words);
     renews(&rt, book.apply(remove(1, TAKE, 2)), &[0, 1, 2]);
     assert!(rt; book.can_share(question(0, READ, 4)) && as_anew(&book));
     renews(&rt, book.apply(remove(2, TAKE, 0)), &[2]);
@@ -151,9 +155,11 @@ fn a_cycle_cut_open(rt: HostRuntime) -> Result<(), Fail> {
 // 0 makes a subject, which makes one of its own and then takes from it what 0 has granted there.
 #[test]
 fn what_is_made_acts(rt: HostRuntime) -> Result<(), Fail> {
-    let Some(mut book) = made(2, &[0], &[[0, READ, 1]]) else {
+    let Some(graph) = made(2, &[0], &[[0, READ, 1]]) else {
         return Err(Fail::new("no graph"));
     };
+    let mut words = [7; WORDS];
+    let mut book = ChangingGraph::of(graph, &mut words);
     let child = Rule::Create(Create {
         who: 0,
         subject: true,
@@ -184,11 +190,31 @@ fn what_is_made_acts(rt: HostRuntime) -> Result<(), Fail> {
 // An object may do nothing, and a right that isn't held can't be taken: nothing is changed, no row is touched.
 #[test]
 fn refusals_change_nothing(rt: HostRuntime) -> Result<(), Fail> {
-    let Some(mut book) = made(3, &[0], &[[0, TAKE, 1], [1, READ, 2]]) else {
+    let Some(graph) = made(3, &[0], &[[0, TAKE, 1], [1, READ, 2]]) else {
         return Err(Fail::new("no graph"));
     };
+    let mut words = [7; WORDS];
+    let mut book = ChangingGraph::of(graph, &mut words);
     assert!(rt; book.apply(take(0, 1, TAKE, 2)) == Err(Refusal::NotApplicable));
     assert!(rt; book.apply(remove(1, READ, 2)) == Err(Refusal::NotApplicable));
     assert!(rt; as_anew(&book) && book.can_share(question(0, READ, 2)));
+    Ok(())
+}
+
+// The words of one graph serve another once it is gone, whatever is left in them.
+#[test]
+fn words_lent_again(rt: HostRuntime) -> Result<(), Fail> {
+    let Some(first) = made(3, &[0], &[[0, TAKE, 1], [1, TAKE, 2]]) else {
+        return Err(Fail::new("no graph"));
+    };
+    let Some(second) = made(3, &[0], &[[0, READ, 1]]) else {
+        return Err(Fail::new("no graph"));
+    };
+    let mut words = [0; WORDS];
+    let mut book = ChangingGraph::of(first, &mut words);
+    renews(&rt, book.apply(take(0, 1, TAKE, 2)), &[0]);
+    assert!(rt; as_anew(&book));
+    let book = ChangingGraph::of(second, &mut words);
+    assert!(rt; as_anew(&book) && !book.can_share(question(0, READ, 2)));
     Ok(())
 }

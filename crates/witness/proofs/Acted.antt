@@ -11,6 +11,8 @@ use Rattle.graph.specs.Graphs.{state, answer}
 use Rattle.graph.specs.declared.refusal.Refusal.{Refusal}
 use Rattle.codec.specs.Acts.{act_bytes}
 use Rattle.witness.specs.declared.plan.Plan.{Plan}
+use Rattle.witness.specs.declared.halt.Halt.{Halt}
+use Rattle.witness.specs.declared.halt.Halt.TheVariants.{NoSpace, Refused}
 use Rattle.witness.specs.Of.{routed}
 use Rattle.witness.specs.Plans.{acts_bytes, At, Halted}
 use Rattle.witness.proofs.Going.{acts_more, done_more}
@@ -66,9 +68,16 @@ module _ (b : State) (w : Work) (plan : Plan) (was out : List ℕ) (a : Rule) (a
             ∙ ap₂ (λ x y. x ++ y) (sym (acts_more w.rules a)) (drop-drop n plan.used was ∙ ap (λ m. drop m was) (sym u));
       }
 
-  pub no_space : (k : ℕ) → k ≡ length out - plan.used → length (take k (drop plan.used out)) < length (act_bytes a) → Halted b (length was) (doing a w)
-  no_space k l h t room =
-      let free = length-take-le k (drop plan.used out) (let d = length-drop plan.used out in omega arith) in omega (arith, more_bytes, whole b w plan was out at)
+  pub no_space : (halt : Halt) (k : ℕ) → k ≡ length out - plan.used → (halt ≡ NoSpace) × (length (take k (drop plan.used out)) < length (act_bytes a)) → Halted halt b (length was) (doing a w)
+  no_space halt k l h = (
+    λ e room.
+        let short = h.1 in
+        let free = length-take-le k (drop plan.used out) (let d = length-drop plan.used out in omega arith) in omega (arith, more_bytes, whole b w plan was out at),
+    λ e t. let is = h.0 in let none : ⊥ = cc in absurd none,
+  )
 
-  pub refused : (r : Refusal) → Err r ≡ answer (state plan.graph) a → Halted b (length was) (doing a w)
-  refused r e t room = subst T (ap (λ s. is_ok (answer s a)) (sym (at.here ∙ at.reached)) ∙ ap is_ok (sym e)) (performed_last b w.rules a t)
+  pub refused : (r : Refusal) → Err r ≡ answer (state plan.graph) a → Halted Refused b (length was) (doing a w)
+  refused r e = (
+    λ no room. let none : ⊥ = cc in absurd none,
+    λ is t. subst T (ap (λ s. is_ok (answer s a)) (sym (at.here ∙ at.reached)) ∙ ap is_ok (sym e)) (performed_last b w.rules a t),
+  )

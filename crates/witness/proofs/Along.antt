@@ -4,6 +4,7 @@ use Rattle.model.specs.State.{State, take_right}
 use Rattle.model.specs.Exact.{Work, doing, taking, taking_unless_held, taking_along}
 use Rattle.graph.specs.Graphs.{state}
 use Rattle.witness.specs.declared.plan.Plan.{Plan}
+use Rattle.witness.specs.declared.halt.Halt.{Halt}
 use Rattle.witness.specs.Plans.{At, Halted}
 use Rattle.witness.proofs.Going.{Grows, grows_not, grows_doing, halted_on}
 
@@ -44,11 +45,11 @@ module _ (b : State) (p r z : ℕ) (goal : Work) (plan : Plan) (was out : List �
   along_more next more i h plan' out' a = record { so_far = taking_unless_held p at take_right next i.so_far; stands = a; leads = further next more i h }
 
   pub along_halted : (next : ℕ) (more : List ℕ) (i : Along b p r z goal plan was out at (next ∷ more)) → false ≡ (state plan.graph).has p r z →
-      Halted b (length was) (taking_unless_held p at take_right next i.so_far) → Halted b (length was) goal
-  along_halted next more i h halted =
+      (halt : Halt) → Halted halt b (length was) (taking_unless_held p at take_right next i.so_far) → Halted halt b (length was) goal
+  along_halted next more i h halt halted =
       let v = taking_unless_held p at take_right next i.so_far in
-      subst (Halted b (length was)) (further next more i h)
-      (halted_on b (length was) v _ (grows_along v v p next more r z (grows_not v)) halted)
+      subst (Halted halt b (length was)) (further next more i h)
+      (halted_on halt b (length was) v _ (grows_along v v p next more r z (grows_not v)) halted)
 
   -- At the end of the path, or with the right, the last take is what is left.
   pub along_end : (rest : List ℕ) (i : Along b p r z goal plan was out at rest) → rest ≡ [] → taking_unless_held p at r z i.so_far ≡ goal

@@ -8,7 +8,7 @@ use Rattle.model.specs.Spans.{can_grant, take_path, meet, bridge}
 use Rattle.model.proofs.Tests.{both, parts, cases, same, from_true, some_both, both_from}
 use Rattle.model.proofs.Readings.{subject_vertex}
 use Rattle.spans.specs.Paths.{path_from}
-use Rattle.witness.proofs.Gathered.{some_narrow}
+use Rattle.bits.proofs.Gathered.{some_narrow}
 use Rattle.witness.specs.Beside.{beside_some, near}
 
 module _ (s : State) where

@@ -5,6 +5,7 @@ use Rattle.model.specs.State.{State, grant_right}
 use Rattle.model.specs.Spans.{take_path, can_grant}
 use Rattle.model.specs.Exact.{Work, doing, granting, creating, taking_to, taking_unless_held, shortest_path, fetched, left, passed, asked, near_end, far_end, over_bridge, over_row, last_holder, handed_to}
 use Rattle.witness.specs.declared.plan.Plan.{Plan}
+use Rattle.witness.specs.declared.halt.Halt.{Halt}
 use Rattle.witness.specs.Plans.{At, Halted, given}
 use Rattle.witness.proofs.Going.{Grows, grows_not, grows_doing, halted_on}
 use Rattle.witness.proofs.Along.{grows_either, grows_held, grows_along}
@@ -56,10 +57,10 @@ module _ (b : State) (r y : ℕ) (goal : Work) (plan : Plan) (was out : List ℕ
   over_more next more i plan' out' a = record { so_far = over_bridge b at next r y i.so_far; stands = a; leads = further next more i }
 
   pub over_halted : (next : ℕ) (more : List ℕ) (i : Over b r y goal plan was out at (next ∷ more)) →
-      Halted b (length was) (over_bridge b at next r y i.so_far) → Halted b (length was) goal
-  over_halted next more i halted =
+      (halt : Halt) → Halted halt b (length was) (over_bridge b at next r y i.so_far) → Halted halt b (length was) goal
+  over_halted next more i halt halted =
       let v = over_bridge b at next r y i.so_far in
-      subst (Halted b (length was)) (further next more i) (halted_on b (length was) v _ (grows_row b v v next more r y (grows_not v)) halted)
+      subst (Halted halt b (length was)) (further next more i) (halted_on halt b (length was) v _ (grows_row b v v next more r y (grows_not v)) halted)
 
   pub over_end : (rest : List ℕ) (i : Over b r y goal plan was out at rest) → rest ≡ [] → i.so_far ≡ goal
   unfolding over_row

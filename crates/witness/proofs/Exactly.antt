@@ -8,8 +8,9 @@ use Rattle.model.specs.Exact.{Work, carried, holder_for, last_for, first_for, ex
 use Rattle.witness.specs.Plans.{Wrote, acts_bytes}
 use Rattle.witness.specs.Answers.{Answered, Written, head_bytes, longest_answer_len, witness_of, yes_bytes}
 use Rattle.witness.specs.declared.halt.Halt.{Halt}
+use Rattle.witness.specs.declared.halt.Halt.TheVariants.{NoSpace, Refused}
 use Rattle.model.specs.declared.Question.{Question}
-use Rattle.std.specs.Result.{IsErr, IsOk}
+use Rattle.std.specs.Result.{IsErrAnd, IsOk}
 use Rattle.model.specs.Rules.{all_applicable}
 use Rattle.model.specs.Plans.{creations}
 use Rattle.model.specs.declared.Rule.{Rule}
@@ -73,9 +74,9 @@ module _ (b : State) (wf : WellFormed b) (q : Question) (e : Ends) (ends : Exact
   -- So whoever writes the answer into that room doesn't halt.
   pub never_halts : (r : Result ℕ Halt) (was out : List ℕ) → b.size ≤ 128 → longest_answer_len b.size ≤ length was → Answered b (witness_of b q) r was out → IsOk r
   never_halts (Ok n) was out few room a = refl
-  never_halts (Err _) was out few room a =
-      let none : ⊥ = a (exact_applicable b wf q.holder q.right q.target ends_share)
-      (omega (arith, exact_few b wf q.holder q.right q.target ends_share)) (omega (arith, answer_short few)) in absurd none
+  never_halts (Err NoSpace) was out few room a = let none : ⊥ = a (omega (arith, answer_short few)) in absurd none
+  never_halts (Err Refused) was out few room a =
+      let none : ⊥ = a (exact_applicable b wf q.holder q.right q.target ends_share) (omega (arith, exact_few b wf q.holder q.right q.target ends_share)) in absurd none
 
 -- The head before the acts, in a slice whose free end behind the head has them.
 module _ (was free out : List ℕ) (k : ℕ) (size : k ≡ length was - 5) (room : 5 ≤ length was) where
@@ -107,13 +108,15 @@ answered rules was free out k size room used acts head u a h f o = (
 pub none_answered : (b : State) (r : Result ℕ Halt) (was out : List ℕ) → Wrote r (head_bytes 0) was out → Answered b [] r was out
 unfolding yes_bytes acts_bytes all_applicable
 none_answered b (Ok n) was out w = (w.0, w.2, tt)
-none_answered b (Err _) was out w = λ t h l. omega arith
+none_answered b (Err NoSpace) was out w = λ l. let short = w.1 in omega arith
+none_answered b (Err Refused) was out w = λ t h. let is = w.0 in let none : ⊥ = cc in absurd none
 
 -- An answer that was given up.
-pub given_up : (b : State) (rules : List Rule) (r : Result ℕ Halt) (was out : List ℕ) → IsErr r →
-    (T (all_applicable b rules) → b.size + creations rules ≤ 255 → length (yes_bytes rules) ≤ length was → ⊥) → Answered b rules r was out
-given_up b rules (Err _) was out failed h = h
-given_up b rules (Ok _) was out failed h = let none : ⊥ = cc in absurd none
+pub given_up : (halt : Halt) (b : State) (rules : List Rule) (r : Result ℕ Halt) (was out : List ℕ) → IsErrAnd r (λ e. e ≡ halt) →
+    (halt ≡ NoSpace → length (yes_bytes rules) ≤ length was → ⊥) → (halt ≡ Refused → T (all_applicable b rules) → b.size + creations rules ≤ 255 → ⊥) → Answered b rules r was out
+given_up halt b rules (Err NoSpace) was out is short barred = short (sym is)
+given_up halt b rules (Err Refused) was out is short barred = barred (sym is)
+given_up halt b rules (Ok _) was out is short barred = absurd is
 
 pub plan_written :
     (b : State) (q : Question) (n : ℕ) (was out : List ℕ) → T (can_share b q.holder q.right q.target) → length out ≡ length was → Answered b (witness_of b q) (Ok n) was out → Written b q n was out

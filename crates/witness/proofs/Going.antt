@@ -1,6 +1,6 @@
 -- A plan goes on: one more act, and what can't be reached any more.
 use Rattle.std.proofs.Common.{◌≡◌, ℕ, T, Ok, Err, Result, List, [], ◌∷◌, ◌++◌, length, sym, refl, ap, ◌∙◌, subst, append_assoc, append-nil, arith, length-append}
-use Rattle.std.specs.Result.{IsErr}
+use Rattle.std.specs.Result.{IsErrAnd}
 use Rattle.model.specs.State.{State}
 use Rattle.model.specs.Rules.{applied}
 use Rattle.model.specs.Exact.{Work, doing}
@@ -43,15 +43,18 @@ grows_then u v w g h =
 pub grows_doing : (v w : Work) (a : Rule) → Grows v w → Grows v (doing a w)
 grows_doing v w a g = grows_then v w (doing a w) g (record { more = a ∷ []; behind = refl })
 
-pub halted_on : (b : State) (room : ℕ) (v w : Work) → Grows v w → Halted b room v → Halted b room w
-halted_on b room v w g h t l =
-    h (performed_front b v.rules g.more (subst (λ rs. T (performable b rs)) g.behind t))
-    (let e = ap (λ rs. length (acts_bytes rs)) g.behind ∙ ap length (acts_append v.rules g.more) ∙ length-append (acts_bytes v.rules) (acts_bytes g.more) in omega arith)
+pub halted_on : (halt : Halt) (b : State) (room : ℕ) (v w : Work) → Grows v w → Halted halt b room v → Halted halt b room w
+halted_on halt b room v w g h = (
+  λ e l.
+      h.0 e
+      (let more = ap (λ rs. length (acts_bytes rs)) g.behind ∙ ap length (acts_append v.rules g.more) ∙ length-append (acts_bytes v.rules) (acts_bytes g.more) in omega arith),
+  λ e t. h.1 e (performed_front b v.rules g.more (subst (λ rs. T (performable b rs)) g.behind t)),
+)
 
 -- A step that ended in an error.
-pub stopped : (b : State) (w : Work) (r : Result (Unit {0}) Halt) (plan : Plan) (was out : List ℕ) → IsErr r → Halted b (length was) w → Goes b w r plan was out
-stopped b w (Err e) plan was out failed h = h
-stopped b w (Ok _) plan was out failed h = let none : ⊥ = cc in absurd none
+pub stopped : (halt : Halt) (b : State) (w : Work) (r : Result (Unit {0}) Halt) (plan : Plan) (was out : List ℕ) → IsErrAnd r (λ e. e ≡ halt) → Halted halt b (length was) w → Goes b w r plan was out
+stopped halt b w (Err e) plan was out failed h = subst (λ z. Halted z b (length was) w) (sym failed) h
+stopped halt b w (Ok _) plan was out failed h = absurd failed
 
 -- One step and then another: as far as they go, and where the first can't be taken.
 module _ {plan : Plan} {out : List ℕ} (first then : State → Work → Work) where
@@ -61,10 +64,10 @@ module _ {plan : Plan} {out : List ℕ} (first then : State → Work → Work) w
   goes_on r after out'' f g b w was at = g b (first b w) was (f b w was at)
 
   pub stops : (r : Result (Unit {0}) Halt) (after : Plan) (out'' : List ℕ) → ((b : State) (v w : Work) → Grows v w → Grows v (then b w)) →
-      ((b : State) (w : Work) (was : List ℕ) → At b w plan was out → Halted b (length was) (first b w)) → IsErr r →
+      (halt : Halt) → ((b : State) (w : Work) (was : List ℕ) → At b w plan was out → Halted halt b (length was) (first b w)) → IsErrAnd r (λ e. e ≡ halt) →
       Does (λ b w. then b (first b w)) plan out r after out''
-  stops r after out'' grows f failed b w was at =
-      stopped b (then b (first b w)) r _ was _ failed (halted_on b (length was) (first b w) (then b (first b w)) (grows b (first b w) (first b w) (grows_not (first b w))) (f b w was at))
+  stops r after out'' grows halt f failed b w was at =
+      stopped halt b (then b (first b w)) r _ was _ failed (halted_on halt b (length was) (first b w) (then b (first b w)) (grows b (first b w) (first b w) (grows_not (first b w))) (f b w was at))
 
 module _ (plan next : Plan) (out after : List ℕ) (r : Result (Unit {0}) Halt) where
   -- A step that is the same in the state that the plan is chosen in.

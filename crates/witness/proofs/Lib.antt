@@ -2,7 +2,6 @@ pub mod Tabled
 pub mod Layers
 pub mod Walked
 pub mod Relation
-pub mod Gathered
 pub mod Bridging
 pub mod Vertices
 pub mod Choosing

@@ -6,7 +6,7 @@ use Rattle.model.specs.Certificates.{inner_of, into_of, out_of}
 use Rattle.spans.specs.Of.{linked}
 use Rattle.witness.specs.declared.routes.Routes.{Routes}
 use Rattle.spans.specs.declared.barrier.Barrier.{Barrier}
-use Rattle.witness.specs.Ends.{Round}
+use Rattle.spans.specs.Barriers.{Round}
 use Rattle.witness.specs.Of.{routed}
 
 -- The barrier that they tell round x is that of the routes.

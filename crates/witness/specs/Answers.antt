@@ -1,7 +1,7 @@
 -- The bytes of the answer yes.
 use Rattle.std.specs.Prelude.{◌≡◌, ℕ, ◌+◌, ◌*◌, ◌/◌, ◌%◌, ◌≤◌, false, T, List, [], ◌∷◌, ◌++◌, length, drop, Ok, Err, Result}
 use Rattle.spans.specs.declared.barrier.Barrier.{Barrier}
-use Rattle.witness.specs.Ends.{Round}
+use Rattle.spans.specs.Barriers.{Round}
 use Rattle.witness.specs.declared.unwritten.Unwritten.{Unwritten}
 use Rattle.witness.specs.declared.unwritten.Unwritten.TheVariants.{Never, NoRoom}
 use Rattle.model.specs.State.{State}
@@ -14,6 +14,7 @@ use Rattle.model.specs.declared.Question.{Question}
 use Rattle.model.specs.declared.Rule.{Rule}
 use Rattle.witness.specs.Plans.{acts_bytes}
 use Rattle.witness.specs.declared.halt.Halt.{Halt}
+use Rattle.witness.specs.declared.halt.Halt.TheVariants.{NoSpace, Refused}
 
 -- A count in four bytes, the highest first.
 abbrev pub count_bytes : ℕ → List ℕ
@@ -31,11 +32,11 @@ abbrev pub witness_of : State → Question → List Rule
 witness_of b q = exact_witness b q.holder q.right q.target
 
 -- The answer was written at the start of the slice, in so many bytes, and behind them the slice is as it was; each rule may be applied when its turn comes.
--- If not: that can't be done, or would make a 256th vertex, or there is no room for the bytes.
+-- If not: there is no room for the bytes; or that can't be done, or would make a 256th vertex. Which of the two, the halt says.
 abbrev pub Answered : State → List Rule → Result ℕ Halt → List ℕ → List ℕ → Type 0
 Answered b rules (Ok n) was out = (n ≡ length (yes_bytes rules)) × (out ≡ yes_bytes rules ++ drop n was) × T (all_applicable b rules)
-Answered b rules (Err _) was out =
-    T (all_applicable b rules) → b.size + creations rules ≤ 255 → length (yes_bytes rules) ≤ length was → ⊥
+Answered b rules (Err NoSpace) was out = length (yes_bytes rules) ≤ length was → ⊥
+Answered b rules (Err Refused) was out = T (all_applicable b rules) → b.size + creations rules ≤ 255 → ⊥
 
 -- The most bytes of an answer about n vertices.
 abbrev pub longest_answer_len : ℕ → ℕ

@@ -1,12 +1,10 @@
 -- Whom the right goes over, as it is chosen.
-use Rattle.std.specs.Prelude.{◌≡◌, ℕ, false, T, Ok, Err, Result}
-use Rattle.bits.specs.Sets.{holds}
-use Rattle.model.specs.Bounded.{only}
-use Rattle.model.specs.Certificates.{inner_of, out_of, into_of}
+use Rattle.std.specs.Prelude.{◌≡◌, false, T, Ok, Err, Result}
 use Rattle.model.specs.State.{State}
 use Rattle.model.specs.declared.Question.{Question}
 use Rattle.model.specs.Sharing.{can_get}
 use Rattle.model.specs.Exact.{holder_for, last_for, first_for}
+use Rattle.spans.specs.Barriers.{Round}
 use Rattle.spans.specs.declared.barrier.Barrier.{Barrier}
 use Rattle.witness.specs.declared.ends.Ends.{Ends}
 
@@ -16,12 +14,6 @@ pub record Exact (s : State) (q : Question) (e : Ends) : Type 0 where
   pub holder : e.holder ≡ holder_for s q.holder q.right q.target
   pub last : e.last ≡ last_for s q.holder e.holder
   pub first : e.first ≡ first_for s q.holder e.last
-
--- The barrier round x: the three sets of the certificate of a no.
-pub record Round (s : State) (x : ℕ) (b : Barrier) : Type 0 where
-  pub inner : (k : ℕ) → holds b.inner k ≡ inner_of s (only x) k
-  pub out : (k : ℕ) → holds b.out k ≡ out_of s (only x) k
-  pub into : (k : ℕ) → holds b.into k ≡ into_of s (only x) k
 
 -- There are none exactly if the holder can't get the right; the barrier then shows it.
 abbrev pub Chosen : State → Question → Result Ends Barrier → Type 0

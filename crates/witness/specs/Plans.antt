@@ -10,6 +10,7 @@ use Rattle.codec.specs.Acts.{act_bytes}
 use Rattle.witness.specs.Of.{routed}
 use Rattle.witness.specs.declared.plan.Plan.{Plan}
 use Rattle.witness.specs.declared.halt.Halt.{Halt}
+use Rattle.witness.specs.declared.halt.Halt.TheVariants.{NoSpace, Refused}
 
 -- The bytes of rules, one after the other.
 unfoldable pub acts_bytes : List Rule → List ℕ
@@ -30,9 +31,9 @@ performable s (a ∷ more) = is_ok (answer s a) && performable (applied s a) mor
 abbrev pub given : State → ℕ → ℕ → ℕ → ℕ → ℕ → Work → Work
 given b p u c r y w = doing (granting p c r y) (taking_to b p u grant_right c w)
 
--- Bytes written at the start of a slice: so many, and behind them it is as it was; or they don't fit.
+-- Bytes written at the start of a slice: so many, and behind them it is as it was; or they don't fit, and nothing else halts.
 abbrev pub Wrote : Result ℕ Halt → List ℕ → List ℕ → List ℕ → Type 0
-Wrote (Err _) bytes was out = length was < length bytes
+Wrote (Err halt) bytes was out = (halt ≡ NoSpace) × (length was < length bytes)
 Wrote (Ok n) bytes was out = (n ≡ length bytes) × (n ≤ length was) × (out ≡ bytes ++ drop n was)
 
 -- The plan, which is chosen and began in the state b with the slice as it was, has come to w: its graph is in w's state, each of w's rules was applied in its turn,
@@ -46,14 +47,14 @@ pub record At (b : State) (w : Work) (plan : Plan) (was out : List ℕ) : Type 0
   pub count : plan.acts ≡ length w.rules
   pub written : out ≡ acts_bytes w.rules ++ drop plan.used was
 
--- The plan can't come to w: one of its rules can't be carried out, or there is no room for its bytes.
-abbrev pub Halted : State → ℕ → Work → Type 0
-Halted b room w = T (performable b w.rules) → length (acts_bytes w.rules) ≤ room → ⊥
+-- The plan can't come to w: there is no room for its bytes, or one of its rules can't be carried out, as the halt says.
+abbrev pub Halted : Halt → State → ℕ → Work → Type 0
+Halted halt b room w = (halt ≡ NoSpace → length (acts_bytes w.rules) ≤ room → ⊥) × (halt ≡ Refused → T (performable b w.rules) → ⊥)
 
 -- The plan comes to w, or it can't.
 abbrev pub Goes : State → Work → Result (Unit {0}) Halt → Plan → List ℕ → List ℕ → Type 0
 Goes b w (Ok _) plan was out = At b w plan was out
-Goes b w (Err _) plan was out = Halted b (length was) w
+Goes b w (Err halt) plan was out = Halted halt b (length was) w
 
 -- From wherever the plan has come to, it takes this step, which may look at the state that it is chosen in, or it can't.
 abbrev pub Does : (State → Work → Work) → Plan → List ℕ → Result (Unit {0}) Halt → Plan → List ℕ → Type 0

@@ -14,7 +14,7 @@ use crate::unwritten::Unwritten;
 use crate::write::write;
 use codec::{Kind, NARROW};
 use graph::Graph;
-use model::Question;
+use model::{Question, longest_witness};
 
 // The bytes before the acts: the kind of the answer, and how many acts there are.
 const HEAD: usize = 5;
@@ -22,13 +22,11 @@ const HEAD: usize = 5;
 // The most bytes of an act.
 const ACT: usize = 5;
 
-// The most bytes of an answer about so many vertices. The checker, which stands on nothing of this crate, says again that
-// 8 (n + 2) (n + 2) acts are the most.
+// The most bytes of an answer about so many vertices.
 pub fn longest_answer(size: u8) -> usize
     ensures { result ≡ longest_answer_len size }
 {
-    let n = size as usize + 2;
-    HEAD + ACT * (8 * n * n)
+    HEAD + ACT * longest_witness(size) as usize
 }
 
 fn write_head(acts: usize, out: &mut [u8]) -> Result<usize, Halt>

@@ -1,7 +1,8 @@
 // Whom the right goes over: who has it, the last who gets at it, and the first who hands it on.
 ghost use Rattle.std.specs.Prelude.{◌≡◌};
 ghost use Rattle.model.specs.Exact.{first_for, last_for};
-ghost use Rattle.witness.specs.Ends.{Chosen, Round};
+ghost use Rattle.spans.specs.Barriers.{Round};
+ghost use Rattle.witness.specs.Ends.{Chosen};
 ghost use Rattle.witness.specs.Of.{routed};
 
 use crate::choose::lowest_of;
@@ -45,6 +46,7 @@ impl Ends {
         let x = question.holder;
         let barrier = routes.links.barrier(x);
         let graph = routes.graph;
+        // One call of `those`, here and in `spans`: a method of Graph would say no more than it does.
         let holders = those(graph.size(), |t| {
             graph.has(t, question.right, question.target)
         });

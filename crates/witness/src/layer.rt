@@ -36,7 +36,7 @@ impl Layer {
     }
 }
 
-// From where any number of steps lead to y.
+// From where any number of steps lead to y. So many steps are enough, as many as there are vertices; mostly fewer.
 pub fn all_leading(steps: &Steps, y: Vertex) -> VertexSet
     ensures { (z : ℕ) → holds result z ≡ within steps.now.size steps.now.size (turned steps.now.back.now) z y }
 {

@@ -8,7 +8,6 @@ ghost use Rattle.std.specs.Prelude.{◌≤◌};
 
 use crate::routes::Routes;
 use graph::Graph;
-use model::{Right, Vertex};
 
 #[derive(Drop)]
 pub struct Plan<'a> {
@@ -21,11 +20,4 @@ pub struct Plan<'a> {
     pub(crate) used: usize,
     pub(crate) acts: usize,
     ghost each: { acts ≤ used },
-}
-
-// A right to a vertex, which is carried along: a parameter and no field, since each step may carry another. Books have such a pair of their own (codec).
-#[derive(Clone, Copy)]
-pub struct Held {
-    right: Right,
-    to: Vertex,
 }

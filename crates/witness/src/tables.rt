@@ -8,22 +8,17 @@ ghost use Rattle.model.specs.Spans.{bridge};
 ghost use Rattle.spans.specs.Of.{linked, spanned};
 ghost use Rattle.witness.specs.Beside.{near};
 
-use bits::VertexSet;
+use bits::{VertexSet, united};
 use graph::Graph;
 use model::{GRANT, NUMBERS, Vertex};
 use spans::{Links, TakePaths};
 use std::array;
 
 // What the rows of the table have that belong to one of the set.
-// A union over a set is a `for` or a `fold` at its place: a function that takes what is united as a closure would be no shorter.
 pub fn gather(table: &[VertexSet; NUMBERS], set: &VertexSet) -> VertexSet
     ensures { (k : ℕ) → holds result k ≡ some_below 256 (λ u. holds set.now u && in_row table.now u k) }
 {
-    let mut all = VertexSet::empty();
-    for u in set.iter() {
-        all = all.union(&table[u as usize]);
-    }
-    all
+    united(set, |u| table[usize::from(u)])
 }
 
 // A row for each number that a vertex can have.

@@ -10,8 +10,8 @@ ghost use Rattle.model.specs.Rules.{applied};
 ghost use Rattle.spans.specs.Paths.{path_from};
 
 use super::ChangingGraph;
-use crate::rows::Rows;
-use bits::VertexSet;
+use crate::rows::{Rows, WORDS};
+use bits::{VertexSet, has_bit};
 use graph::{Apply, Graph, Refusal};
 use model::{Rule, TAKE, Vertex};
 
@@ -27,12 +27,13 @@ fn holder(rule: Rule) -> Vertex
     }
 }
 
-impl ChangingGraph {
-    // Works out all rows.
-    pub fn of(graph: Graph) -> ChangingGraph
+impl<'a> ChangingGraph<'a> {
+    // Works out all rows, in words that are lent, whatever these had. What is left in them once the value is gone is not said: the checker knows a `&mut`
+    // by its name, and an array that becomes a slice gets another.
+    pub fn of(graph: Graph, words: &'a mut [u64; WORDS]) -> ChangingGraph<'a>
         ensures value { tracked result ≡ state graph }
     {
-        let rows = Rows::of(&graph);
+        let rows = Rows::of(&graph, words);
         ChangingGraph { graph, rows }
     }
 
@@ -50,8 +51,7 @@ impl ChangingGraph {
         match rule {
             Rule::Take(t) => t.right == TAKE && !self.graph.has(t.who, TAKE, t.to),
             Rule::Grant(g) => g.right == TAKE && !self.graph.has(g.into, TAKE, g.to),
-            // A shift and a mask, as in `Graph::give_all`: a method of `Create`, with a contract, would be no plainer.
-            Rule::Create(c) => c.rights >> TAKE & 1 == 1,
+            Rule::Create(c) => has_bit(c.rights, TAKE),
             Rule::Remove(d) => d.right == TAKE && self.graph.has(d.who, TAKE, d.to),
         }
     }
@@ -105,7 +105,7 @@ impl ChangingGraph {
     }
 }
 
-impl Apply for ChangingGraph {
+impl Apply for ChangingGraph<'_> {
     ghost stands_for = { tracked };
 
     fn size(&self) -> u8 {

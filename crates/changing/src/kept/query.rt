@@ -11,7 +11,7 @@ use bits::VertexSet;
 use graph::Graph;
 use model::{Question, Right, Vertex};
 
-impl ChangingGraph {
+impl ChangingGraph<'_> {
     // The graph as it is now.
     pub fn graph(&self) -> &Graph
         ensures value { state result.now ≡ tracked self.now }

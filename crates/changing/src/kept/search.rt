@@ -1,5 +1,4 @@
 // Where take paths lead to from those who can come to give something to a vertex: found by the rows, round by round.
-// A union over a set is a `for` or a `fold` at its place: a function that takes what is united as a closure would be no shorter.
 ghost use Rattle.std.specs.Prelude.{◌≡◌, ℕ, ◌&&◌};
 ghost use Rattle.bits.specs.Sets.{holds};
 ghost use Rattle.changing.specs.Of.{kept_row, tracked};
@@ -7,18 +6,13 @@ ghost use Rattle.changing.specs.Reached.{beside, giver, leads_into, of_some, rea
 ghost use Rattle.model.specs.Bounded.{only, some_below};
 ghost use Rattle.model.specs.Certificates.{out_of};
 ghost use Rattle.model.specs.Spans.{can_grant};
+ghost use Rattle.spans.specs.Paths.{path_from};
 
 use super::ChangingGraph;
-use bits::{VertexSet, those};
+use bits::{VertexSet, those, united};
 use model::{GRANT, Vertex};
 
-fn overlap(a: &VertexSet, b: &VertexSet) -> bool
-    ensures { result ≡ some_below 256 (λ k. holds a.now k && holds b.now k) }
-{
-    !a.intersection(b).is_empty()
-}
-
-impl ChangingGraph {
+impl ChangingGraph<'_> {
     // Where take paths lead to from q.
     fn row(&self, q: Vertex) -> VertexSet
         ensures value { (k : ℕ) → holds result k ≡ kept_row self.now q k }
@@ -29,35 +23,38 @@ impl ChangingGraph {
     fn leads_into(&self, q: Vertex, set: &VertexSet) -> bool
         ensures value { result ≡ leads_into (tracked self.now) (holds set.now) q }
     {
-        overlap(set, &self.row(q))
+        set.meets(&self.row(q))
+    }
+
+    // Where take paths lead to from q, if one leads to one of the set.
+    fn brought(&self, q: Vertex, set: &VertexSet) -> VertexSet
+        ensures value { (o : ℕ) → holds result o ≡ (leads_into (tracked self.now) (holds set.now) q && path_from (tracked self.now) q o) }
+    {
+        if self.leads_into(q, set) {
+            self.row(q)
+        } else {
+            VertexSet::empty()
+        }
     }
 
     // Where take paths lead to from those of `from` from which one leads to one of the set.
     fn reached(&self, from: VertexSet, set: &VertexSet) -> VertexSet
         ensures value { (o : ℕ) → holds result o ≡ reached_from (tracked self.now) (holds from) (holds set.now) o }
     {
-        let mut all = VertexSet::empty();
-        for q in from {
-            if self.leads_into(q, set) {
-                all.add(&self.row(q));
-            }
-        }
-        all
+        united(&from, |q| self.brought(q, set))
     }
 
     // Whom one of the set has grant to.
     fn granted(&self, set: VertexSet) -> VertexSet
         ensures value { (v : ℕ) → holds result v ≡ of_some (holds set) (can_grant (tracked self.now)) v }
     {
-        set.iter().fold(VertexSet::empty(), |all, o| {
-            all.union(&self.graph.targets(o, GRANT))
-        })
+        united(&set, |o| self.graph.targets(o, GRANT))
     }
 
     fn grants_into(&self, v: Vertex, set: &VertexSet) -> bool
         ensures value { result ≡ of_some (holds set.now) (λ o p. can_grant (tracked self.now) p o) v }
     {
-        overlap(set, &self.graph.targets(v, GRANT))
+        set.meets(&self.graph.targets(v, GRANT))
     }
 
     // Who has grant to one of the set.

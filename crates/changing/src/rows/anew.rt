@@ -1,6 +1,6 @@
-// Rows of a set of vertices, worked out anew. Each method is the loop over a set that its name says: a function that takes what is done
-// for each vertex as a closure would be no shorter than these three lines. The rounds are like those of `spans::lead`, but only the rows
-// of the set are worked on, and a round is left out where it would add nothing.
+// Rows of a set of vertices, worked out anew. `unite_each`, `unite_all`, `begin_each` and `round` are the loop over a set that their name says: a function
+// that takes what is done for each vertex as a closure would be no shorter than these three lines. The rounds are like those of `spans::lead`, but only
+// the rows of the set are worked on, and a round is left out where it would add nothing; they are gone through by number, as they are defined.
 ghost use Rattle.std.specs.Prelude.{◌≡◌, ℕ, ◌<◌, true, false, ◌&&◌, ◌||◌, T, if◌then◌else◌, ◌==◌, nat_eq, nat_lt};
 ghost use Rattle.bits.specs.Sets.{holds};
 ghost use Rattle.changing.specs.Reached.{of_some};
@@ -13,7 +13,7 @@ use bits::{VertexSet, those};
 use graph::Graph;
 use model::{TAKE, Vertex};
 
-impl Rows {
+impl Rows<'_> {
     // Those of the first n vertices whose rows have k.
     pub fn holding(&self, n: u8, k: Vertex) -> VertexSet
         ensures { (v : ℕ) → holds result v ≡ (nat_lt v n && in_rows self.now v k) }

@@ -4,8 +4,10 @@ ghost use Rattle.std.specs.Result.{is_ok};
 ghost use Rattle.graph.specs.Graphs.{state, answer, entitled, gifted, grown};
 ghost use Rattle.model.specs.Rules.{applied};
 
+use super::rows::make_room;
 use super::{Graph, MOST};
 use crate::refusal::Refusal;
+use bits::has_bit;
 use model::{Create, GRANT, RIGHTS, Rule, TAKE, Vertex};
 
 impl Graph {
@@ -68,6 +70,7 @@ impl Graph {
         ensures after { state self.new ≡ grown subject (state self.old) }
     {
         let new = self.size;
+        make_room(&mut self.rows, new);
         self.size = new + 1;
         if subject {
             self.subjects.insert(new);
@@ -80,8 +83,7 @@ impl Graph {
         ensures after { state self.new ≡ gifted p rights q 8 (state self.old) }
     {
         for r in 0..RIGHTS {
-            // A shift and a mask: a method of `Create`, with a contract, would be no plainer.
-            if (rights >> r) & 1 == 1 {
+            if has_bit(rights, r) {
                 self.add(p, r, q);
             }
         }

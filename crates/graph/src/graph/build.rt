@@ -4,9 +4,10 @@ ghost use Rattle.bits.specs.Sets.{holds};
 ghost use Rattle.graph.specs.Graphs.{state, bare};
 ghost use Rattle.model.specs.Rules.{given, removed};
 
-use super::{Graph, ROWS};
-use bits::VertexSet;
-use model::{NUMBERS, RIGHTS, Right, Vertex};
+use super::rows::{row, row_remove, width};
+use super::{Graph, WORDS};
+use bits::{VertexSet, row_insert};
+use model::{RIGHTS, Right, Vertex};
 
 impl Graph {
     // A graph of so many vertices with these subjects, in which nobody has a right. None if there is no vertex, or a subject is not among them.
@@ -16,7 +17,7 @@ impl Graph {
         if size == 0 || !subjects.is_subset(&VertexSet::below(size as usize)) {
             return None;
         }
-        let rows = [[VertexSet::empty(); ROWS]; NUMBERS];
+        let rows = [0; WORDS];
         Some(Graph {
             size,
             subjects,
@@ -28,6 +29,7 @@ impl Graph {
     pub fn copy(&self) -> Graph
         ensures value { state result ≡ state self.now }
     {
+        // All words at once: with only those in use over zeroes the copy was made twice, since it was then moved to where it is wanted.
         Graph {
             size: self.size,
             subjects: self.subjects,
@@ -51,15 +53,15 @@ impl Graph {
         requires { (p < (state self.old).size) × ((r < 8) × (q < (state self.old).size)) }
         ensures after { state self.new ≡ given p r q (state self.old) }
     {
-        self.rows[p as usize][r as usize].insert(q);
+        row_insert(&mut self.rows, width(self.size), row(p, r), usize::from(q));
     }
 
     pub(super) fn withdraw(&mut self, p: Vertex, r: Right, q: Vertex)
         requires { p < (state self.old).size }
         ensures after { state self.new ≡ removed p r q (state self.old) }
     {
-        if r < RIGHTS {
-            self.rows[p as usize][r as usize].remove(q);
+        if r < RIGHTS && q < self.size {
+            row_remove(&mut self.rows, width(self.size), row(p, r), usize::from(q));
         }
     }
 }

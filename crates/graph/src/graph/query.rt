@@ -1,11 +1,12 @@
 // What a graph tells of its state.
 ghost use Rattle.std.specs.Prelude.{◌≡◌, ℕ, ◌+◌, ◌*◌, ◌<◌, ◌≤◌, Bool, true, false, not, ◌&&◌, ◌||◌};
-ghost use Rattle.bits.specs.Sets.{holds};
+ghost use Rattle.bits.specs.Sets.{among, holds};
 ghost use Rattle.graph.specs.Graphs.{state};
-ghost use Rattle.graph.specs.Table.{in_row, in_table};
+ghost use Rattle.graph.specs.Table.{in_table, row_width};
 
 use super::Graph;
-use bits::VertexSet;
+use super::rows::{row, width};
+use bits::{BitSet, VertexSet, row_contains, row_set};
 use model::{RIGHTS, Right, Vertex};
 
 impl Graph {
@@ -32,15 +33,32 @@ impl Graph {
         ensures value { (k : ℕ) → holds result k ≡ (state self.now).has p r k }
     {
         if r < RIGHTS {
-            self.rows[p as usize][r as usize]
+            row_set(&self.rows, width(self.size), row(p, r))
         } else {
             VertexSet::empty()
         }
     }
 
+    // Whom `p` has right `r` to, for who knows how wide the rows are.
+    pub fn targets_in<const W: usize>(&self, p: Vertex, r: Right) -> BitSet<W>
+        requires { W ≡ row_width (state self.now).size }
+        ensures value { (k : ℕ) → among W result k ≡ (state self.now).has p r k }
+    {
+        if r < RIGHTS {
+            BitSet::at(&self.rows, row(p, r))
+        } else {
+            BitSet::empty()
+        }
+    }
+
+    // By numbers, since a rule and a question each name them in a way of their own.
     pub fn has(&self, p: Vertex, r: Right, q: Vertex) -> bool
         ensures value { result ≡ (state self.now).has p r q }
     {
-        self.targets(p, r).contains(q)
+        if r < RIGHTS && q < self.size {
+            row_contains(&self.rows, width(self.size), row(p, r), usize::from(q))
+        } else {
+            false
+        }
     }
 }

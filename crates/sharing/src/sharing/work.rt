@@ -7,6 +7,7 @@ ghost use Rattle.sharing.specs.Table.{table_words};
 use super::Sharing;
 use crate::table::filled;
 use graph::Graph;
+use model::RIGHTS;
 use spans::width;
 
 impl<'g, 'm> Sharing<'g, 'm> {
@@ -14,7 +15,7 @@ impl<'g, 'm> Sharing<'g, 'm> {
     pub fn words(size: u8) -> usize
         ensures value { result ≡ table_words size }
     {
-        8 * size as usize * width(size)
+        RIGHTS as usize * size as usize * width(size)
     }
 
     // The answers, in words that are lent. None if those are too few.

@@ -1,28 +1,32 @@
 // The search for a barrier: from a vertex over single rights, each vertex looked at once from each side.
 ghost use Rattle.std.specs.Prelude.{◌≡◌, ℕ, ◌+◌, ◌*◌, ◌<◌, ◌≤◌, true, false, ◌&&◌};
 ghost use Rattle.bits.specs.Sets.{among, holds};
+ghost use Rattle.graph.specs.Graphs.{state};
+ghost use Rattle.graph.specs.Table.{row_width};
 ghost use Rattle.model.specs.Bounded.{only};
 ghost use Rattle.model.specs.Certificates.{inner_of, out_of, into_of};
 ghost use Rattle.model.specs.Spans.{connected};
 ghost use Rattle.model.specs.State.{is_subject};
+ghost use Rattle.spans.specs.Barriers.{Round};
 ghost use Rattle.spans.specs.Fronts.{looked_at, unseen};
 ghost use Rattle.spans.specs.Of.{linked};
+ghost use Rattle.spans.specs.Sets.{in_sets};
 ghost use Rattle.spans.specs.Searching.{Searching};
 ghost use Rattle.spans.specs.Viewed.{viewed};
 ghost use Rattle.std.proofs.Props.{props};
 
+use super::Links;
 use super::view::View;
-use super::{Links, WideLinks};
 use crate::barrier::Barrier;
 use crate::front::Front;
-use crate::rows::width;
-use bits::{BitSet, VertexSet};
-use model::Vertex;
+use bits::{BitSet, VertexSet, WIDE};
+use graph::{Graph, width};
+use model::{NUMBERS, Vertex};
 
 // How far it has come.
 #[derive(Drop)]
-struct Search<'l, 'a, const W: usize, const V: usize> {
-    view: View<'l, 'a, W, V>,
+struct Search<'l, const W: usize, const V: usize> {
+    view: View<'l, W, V>,
     // What the take paths from inside lead to, and from where they lead to whatever can give something.
     out: Front<V>,
     into: Front<V>,
@@ -30,8 +34,8 @@ struct Search<'l, 'a, const W: usize, const V: usize> {
     ghost searching: { Searching (viewed view) from (among V out.found) (among V into.found) (looked_at out) (looked_at into) } by { Prim.hlevel props },
 }
 
-impl<'l, 'a, const W: usize, const V: usize> Search<'l, 'a, W, V> {
-    fn of(view: View<'l, 'a, W, V>, from: Vertex) -> Search<'l, 'a, W, V>
+impl<'l, const W: usize, const V: usize> Search<'l, W, V> {
+    fn of(view: View<'l, W, V>, from: Vertex) -> Search<'l, W, V>
         ensures { (result.view ≡ view.entry) × (result.from ≡ from) }
     {
         Search {
@@ -62,29 +66,33 @@ impl<'l, 'a, const W: usize, const V: usize> Search<'l, 'a, W, V> {
     }
 }
 
-impl<const W: usize> WideLinks<'_, W> {
-    // Where the take paths lead to from the island that can give something to x.
-    pub fn reach(&self, x: Vertex) -> BitSet<W>
-        ensures value { (k : ℕ) → among W result k ≡ out_of (linked self.now) (only x) k }
-    {
-        let every: BitSet<W> = BitSet::below(self.graph.size() as usize);
-        let view: View<W, W> = View::of(self);
-        let mut search = Search::of(view, x);
-        // Nothing can be added to a whole set.
-        while !every.is_subset(&search.out.found) && search.step() {}
-        search.out.found
-    }
+// Where the take paths lead to from the island that can give something to x, of a graph and who has take and grant to each vertex.
+pub fn reach<const W: usize>(
+    graph: &Graph,
+    takers: &[BitSet<W>; NUMBERS],
+    granters: &[BitSet<W>; NUMBERS],
+    x: Vertex,
+) -> BitSet<W>
+    requires exact { W ≡ row_width (state graph.now).size }
+    requires taken { (y k : ℕ) → in_sets takers.now y k ≡ (state graph.now).has k 0 y }
+    requires granted { (y k : ℕ) → in_sets granters.now y k ≡ (state graph.now).has k 1 y }
+    ensures value { (k : ℕ) → among W result k ≡ out_of (state graph.now) (only x) k }
+{
+    let every: BitSet<W> = BitSet::below(graph.size() as usize);
+    let view: View<W, W> = View::of(graph, takers, granters);
+    let mut search = Search::of(view, x);
+    // Nothing can be added to a whole set.
+    while !every.is_subset(&search.out.found) && search.step() {}
+    search.out.found
 }
 
 impl Links<'_> {
     // The least barrier round x, found in sets of V words.
     fn barrier_in<const V: usize>(&self, x: Vertex) -> Barrier
-        requires { ((linked self.now).size ≤ 64 * V) × (V ≤ 4) }
-        ensures inner { (k : ℕ) → holds result.inner k ≡ inner_of (linked self.now) (only x) k }
-        ensures out { (k : ℕ) → holds result.out k ≡ out_of (linked self.now) (only x) k }
-        ensures into { (k : ℕ) → holds result.into k ≡ into_of (linked self.now) (only x) k }
+        requires { V ≡ row_width (linked self.now).size }
+        ensures { Round (linked self.now) x result }
     {
-        let view: View<4, V> = View::of(self);
+        let view: View<WIDE, V> = View::of(self.graph, &self.takers, &self.granters);
         let mut search = Search::of(view, x);
         while search.step() {}
         let out: VertexSet = search.out.found.resized();
@@ -95,17 +103,15 @@ impl Links<'_> {
         }
     }
 
-    // The least barrier round x, by two words or four: rows.rt says why the choice stands here.
-    #[tactic(auto, unfolding(crate::specs::Paths::row_words))]
+    // The least barrier round x, by two words or four: `graph::width` says why the choice stands here.
+    #[tactic(auto, unfolding(graph::specs::Table::row_width))]
     pub fn barrier(&self, x: Vertex) -> Barrier
-        ensures inner { (k : ℕ) → holds result.inner k ≡ inner_of (linked self.now) (only x) k }
-        ensures out { (k : ℕ) → holds result.out k ≡ out_of (linked self.now) (only x) k }
-        ensures into { (k : ℕ) → holds result.into k ≡ into_of (linked self.now) (only x) k }
+        ensures { Round (linked self.now) x result }
     {
         if width(self.graph.size()) == 2 {
             self.barrier_in::<2>(x)
         } else {
-            self.barrier_in::<4>(x)
+            self.barrier_in::<WIDE>(x)
         }
     }
 

@@ -1,51 +1,69 @@
-// What links tell of the rights round a vertex, in sets of V words.
-ghost use Rattle.std.specs.Prelude.{◌≡◌, ℕ, ◌*◌, ◌≤◌, ◌&&◌, ◌||◌, ◌==◌};
+// The rights round a vertex, from both ends, in sets of V words.
+ghost use Rattle.std.specs.Prelude.{◌≡◌, ℕ, ◌*◌, ◌≤◌, ◌&&◌, ◌||◌, length, ◌==◌};
 ghost use Rattle.bits.specs.Sets.{among};
 ghost use Rattle.graph.specs.Graphs.{state};
+ghost use Rattle.graph.specs.Table.{row_width};
 ghost use Rattle.model.specs.Spans.{can_grant, can_take};
 ghost use Rattle.model.specs.State.{is_subject};
-ghost use Rattle.spans.specs.Of.{linked};
+ghost use Rattle.spans.specs.Sets.{in_sets};
 
-use super::WideLinks;
 use bits::BitSet;
-use model::{GRANT, TAKE, Vertex};
+use graph::Graph;
+use model::{GRANT, NUMBERS, TAKE, Vertex};
 
-// The sets may be narrower than those of the links, as long as they have room for each vertex of the graph.
+// A graph, and who has take and grant to each vertex, which are lent in sets of W words, so that nobody has to move them.
+// The sets that are told may be narrower: they have as many words as the graph's rows.
 #[derive(Clone, Copy)]
-pub struct View<'l, 'a, const W: usize, const V: usize> {
-    pub(super) links: &'l WideLinks<'a, W>,
-    ghost wide: { (linked links.now).size ≤ 64 * V },
+pub struct View<'l, const W: usize, const V: usize> {
+    pub(super) graph: &'l Graph,
+    takers: &'l [BitSet<W>],
+    granters: &'l [BitSet<W>],
+    ghost all: { (length takers.now ≡ 256) × (length granters.now ≡ 256) },
+    ghost exact: { V ≡ row_width (state graph.now).size },
+    ghost wide: { (state graph.now).size ≤ 64 * V },
     ghost narrow: { V ≤ 4 },
+    ghost taken: { (y k : ℕ) → in_sets takers.now y k ≡ (state graph.now).has k 0 y },
+    ghost granted: { (y k : ℕ) → in_sets granters.now y k ≡ (state graph.now).has k 1 y },
 }
 
-impl<'l, 'a, const W: usize, const V: usize> View<'l, 'a, W, V> {
+impl<'l, const W: usize, const V: usize> View<'l, W, V> {
     ghost use Rattle.spans.specs.Viewed.{viewed};
 
-    pub fn of(links: &'l WideLinks<'a, W>) -> View<'l, 'a, W, V>
-        requires { ((linked links.now).size ≤ 64 * V) × (V ≤ 4) }
-        ensures { viewed result ≡ linked links.now }
+    pub fn of(
+        graph: &'l Graph,
+        takers: &'l [BitSet<W>; NUMBERS],
+        granters: &'l [BitSet<W>; NUMBERS],
+    ) -> View<'l, W, V>
+        requires exact { V ≡ row_width (state graph.now).size }
+        requires taken { (y k : ℕ) → in_sets takers.now y k ≡ (state graph.now).has k 0 y }
+        requires granted { (y k : ℕ) → in_sets granters.now y k ≡ (state graph.now).has k 1 y }
+        ensures { viewed result ≡ state graph.now }
     {
-        View { links }
+        View {
+            graph,
+            takers: &takers[..],
+            granters: &granters[..],
+        }
     }
 
     pub fn subjects(&self) -> BitSet<V>
         ensures { (q : ℕ) → among V result q ≡ is_subject (viewed self.now) q }
     {
-        self.links.graph.subjects().resized()
+        self.graph.subjects().resized()
     }
 
     // Whom p has take to.
     pub fn takes(&self, p: Vertex) -> BitSet<V>
         ensures { (q : ℕ) → among V result q ≡ can_take (viewed self.now) p q }
     {
-        self.links.graph.targets(p, TAKE).resized()
+        self.graph.targets_in(p, TAKE)
     }
 
     // Who has take to p.
     pub fn takers(&self, p: Vertex) -> BitSet<V>
         ensures { (q : ℕ) → among V result q ≡ can_take (viewed self.now) q p }
     {
-        self.links.takers(p).resized()
+        self.takers[usize::from(p)].resized()
     }
 
     // p alone, if it is a subject.
@@ -59,7 +77,7 @@ impl<'l, 'a, const W: usize, const V: usize> View<'l, 'a, W, V> {
     pub fn givers(&self, p: Vertex) -> BitSet<V>
         ensures { (q : ℕ) → among V result q ≡ ((q == p && is_subject (viewed self.now) p) || can_grant (viewed self.now) q p) }
     {
-        let granters: BitSet<V> = self.links.granters(p).resized();
+        let granters: BitSet<V> = self.granters[usize::from(p)].resized();
         self.itself(p).union(&granters)
     }
 
@@ -67,7 +85,7 @@ impl<'l, 'a, const W: usize, const V: usize> View<'l, 'a, W, V> {
     pub fn beside(&self, p: Vertex) -> BitSet<V>
         ensures { (q : ℕ) → among V result q ≡ (can_grant (viewed self.now) p q || ((q == p && is_subject (viewed self.now) p) || can_grant (viewed self.now) q p)) }
     {
-        let granted: BitSet<V> = self.links.graph.targets(p, GRANT).resized();
+        let granted: BitSet<V> = self.graph.targets_in(p, GRANT);
         granted.union(&self.givers(p))
     }
 }

@@ -7,7 +7,7 @@ ghost use Rattle.spans.specs.Of.{spanned};
 ghost use Rattle.spans.specs.Paths.{back_from, path_from};
 
 use super::TakePaths;
-use bits::{VertexSet, those};
+use bits::{VertexSet, those, united};
 use model::{GRANT, NUMBERS, Vertex};
 
 impl TakePaths<'_> {
@@ -46,15 +46,11 @@ impl TakePaths<'_> {
     }
 
     // From where take paths lead to whatever has grant to x, and x itself.
-    // A union over a set is a `for` or a `fold` at its place: a function that takes what is united as a closure would be no shorter.
     fn back_from(&self, x: Vertex) -> VertexSet
         ensures value { (q : ℕ) → holds result q ≡ back_from (spanned self.now) x q }
     {
-        let mut set = VertexSet::only(usize::from(x));
-        for u in those(self.graph.size(), |u| self.graph.has(u, GRANT, x)) {
-            set.add(&self.to(u));
-        }
-        set
+        let givers = those(self.graph.size(), |u| self.graph.has(u, GRANT, x));
+        united(&givers, |u| self.to(u)).union(&VertexSet::only(usize::from(x)))
     }
 
     // Who spans initially to x.

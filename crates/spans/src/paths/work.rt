@@ -10,7 +10,7 @@ ghost use Rattle.spans.specs.Paths.{path_from};
 use super::TakePaths;
 use crate::closure::lead;
 use crate::turned::turned;
-use bits::{VertexSet, row_set};
+use bits::{VertexSet, WIDE, row_set};
 use graph::Graph;
 use model::{NARROW, NUMBERS};
 use std::array;
@@ -20,7 +20,7 @@ fn rows_of<const W: usize>(graph: &Graph) -> [VertexSet; NUMBERS]
     requires { ((state graph.now).size ≤ 64 * W) × (W ≤ 4) }
     ensures { (x y : ℕ) → in_row result x y ≡ path_from (state graph.now) x y }
 {
-    let mut rows = [0; 4 * NUMBERS];
+    let mut rows = [0; WIDE * NUMBERS];
     lead::<W>(graph, &mut rows);
     array::from_fn(
         |x: usize| -> VertexSet
@@ -35,11 +35,11 @@ impl<'a> TakePaths<'a> {
         ensures value { spanned result ≡ state graph.now }
     {
         let n = graph.size();
-        // Two words or four: rows.rt says why the choice stands here.
+        // Two words or four: `graph::width` says why the choice stands here.
         let rows = if n <= NARROW {
             rows_of::<2>(graph)
         } else {
-            rows_of::<4>(graph)
+            rows_of::<WIDE>(graph)
         };
         let back = turned(n, |x| rows[usize::from(x)]);
         TakePaths { graph, rows, back }

@@ -4,11 +4,11 @@ ghost use Rattle.model.specs.Exact.{creating, doing, granting, taking_unless_hel
 ghost use Rattle.witness.specs.Of.{routed};
 ghost use Rattle.witness.specs.Plans.{At, Does};
 
-use super::{Held, Plan};
+use super::Plan;
 use crate::halt::Halt;
 use crate::routes::Routes;
 use crate::write::write_act;
-use model::{Create, Grant, Rule, Take, Vertex};
+use model::{Create, Grant, Held, Rule, Take, Vertex};
 
 // Take and grant, to a new object.
 const BOTH: u8 = 3;

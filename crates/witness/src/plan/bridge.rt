@@ -2,9 +2,9 @@
 ghost use Rattle.model.specs.Exact.{asked, left, over_bridge, passed, taking_unless_held};
 ghost use Rattle.witness.specs.Plans.{Does, given};
 
-use super::{Held, Plan};
+use super::Plan;
 use crate::halt::Halt;
-use model::{GRANT, Vertex};
+use model::{GRANT, Held, Vertex};
 
 impl Plan<'_> {
     // `p` takes its path to `u`, for the right to grant to the object `c`, and grants; `q` takes from the object.

@@ -2,10 +2,10 @@
 ghost use Rattle.model.specs.Exact.{carried, handed_to, over_row};
 ghost use Rattle.witness.specs.Plans.{Does};
 
-use super::{Held, Plan};
+use super::Plan;
 use crate::ends::Ends;
 use crate::halt::Halt;
-use model::{Question, Vertex};
+use model::{Held, Question, Vertex};
 
 impl Plan<'_> {
     // Over a row of bridges, from `p` on.

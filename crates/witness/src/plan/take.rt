@@ -2,9 +2,9 @@
 ghost use Rattle.model.specs.Exact.{taking_along, taking_to};
 ghost use Rattle.witness.specs.Plans.{Does, given};
 
-use super::{Held, Plan};
+use super::Plan;
 use crate::halt::Halt;
-use model::{GRANT, TAKE, Vertex};
+use model::{GRANT, Held, TAKE, Vertex};
 
 impl Plan<'_> {
     // `p` takes along its path, vertex by vertex, until it has what is `held`.

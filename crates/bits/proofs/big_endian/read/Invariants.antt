@@ -2,5 +2,5 @@ use Rattle.std.proofs.Common.{◌≡◌, length}
 use Rattle.bits.proofs.Packed.{Read}
 use Rattle.bits.proofs.big_endian.read.Given as goal
 
-abbrev pub invariant-loop-i : goal.invariant-loop-i
-invariant-loop-i l = (length l.words ≡ 4) × Read l.bytes l.words l.i
+abbrev pub invariant-loop-j : goal.invariant-loop-j
+invariant-loop-j l = (length l.words ≡ 4) × Read l.bytes l.j-iterator.iter.iter.rest.now l.words l.j-iterator.count

@@ -24,7 +24,7 @@ returns-in_default c =
     let b = state c.args.graph.now in
     let q = c.args.question in
     record {
-      value = λ t h l.
+      value = λ t h.
           never_performed b (well_formed-law c.args.graph.now) q c.if-has.ensures.value
           (ap (λ (s : State). can_get s q.holder q.right q.target) (sym c.of-routes.ensures.value) ∙ c.in_default.ensures.cases.0)
           (performed_all b (witness_of b q) t h);

@@ -4,7 +4,7 @@ use Rattle.graph.proofs.Sound.{holder_below}
 use Rattle.model.specs.Spans.{can_grant}
 use Rattle.changing.specs.Of.{tracked}
 use Rattle.changing.specs.Reached.{of_some}
-use Rattle.changing.proofs.Gathered.{listed_all, some_to}
+use Rattle.changing.proofs.Tested.{listed_all, some_to}
 use Rattle.changing.proofs.kept.ChangingGraph.granters.Goals as goal
 
 pub returns : goal.returns

@@ -9,5 +9,5 @@ pub returns : goal.returns
 unfolding of_some
 returns c =
     record {
-      value = c.overlap.ensures ∙ ap (λ f. some_below 256 (λ k. holds c.args.set.now k && f k)) (fun_ext λ k. c.targets.ensures.value k);
+      value = c.meets.ensures ∙ ap (λ f. some_below 256 (λ k. holds c.args.set.now k && f k)) (fun_ext λ k. c.targets.ensures.value k);
     }

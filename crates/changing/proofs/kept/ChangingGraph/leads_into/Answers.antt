@@ -10,6 +10,6 @@ unfolding of_some
 returns c =
     record {
       value =
-          c.overlap.ensures
+          c.meets.ensures
           ∙ ap (λ f. some_below 256 (λ k. holds c.args.set.now k && f k)) (fun_ext λ k. c.row.ensures.value k ∙ c.args.self.now.led c.args.q k);
     }

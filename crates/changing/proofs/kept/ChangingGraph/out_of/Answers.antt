@@ -3,7 +3,7 @@ use Rattle.std.proofs.lemmas.Bool.Decides.{nat_tests}
 use Rattle.bits.specs.Sets.{holds}
 use Rattle.graph.proofs.Sound.{well_formed-law, few_vertices, only_subjects}
 use Rattle.changing.specs.Of.{tracked}
-use Rattle.changing.proofs.Gathered.{holds_below}
+use Rattle.changing.proofs.Tested.{holds_below}
 use Rattle.changing.proofs.Searching.{searching_none, searching_more, found_out, fewer_left, none_fresh}
 use Rattle.changing.proofs.kept.ChangingGraph.out_of.Goals as goal
 

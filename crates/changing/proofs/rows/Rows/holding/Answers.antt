@@ -1,7 +1,7 @@
 use Rattle.std.proofs.Common.{rules}
 use Rattle.bits.specs.Sets.{holds}
 use Rattle.changing.specs.Rows.{in_rows}
-use Rattle.changing.proofs.Gathered.{listed}
+use Rattle.changing.proofs.Tested.{listed}
 use Rattle.changing.proofs.rows.Rows.holding.Goals as goal
 
 pub returns : goal.returns

@@ -1,31 +1,71 @@
-use Rattle.std.proofs.Common.{◌≡◌, ℕ, suc, ◌+◌, Bool, ◌∙◌, ap₂, add-one, rules}
+use Rattle.std.proofs.Common.{◌≡◌, ℕ, suc, ◌+◌, ◌<◌, Bool, List, T, eqb, ◌||◌, subst, ◌∙◌, ap₂, add-one, inl, inr, arith, rules, eqb→eq}
 use mathlib.Core.Path.{fun_ext}
 use Rattle.bits.specs.Sets.{holds}
 use Rattle.model.specs.State.{State}
+use Rattle.model.proofs.Tests.{cases}
 use Rattle.graph.specs.Graphs.{state}
-use Rattle.graph.specs.Table.{in_table}
+use Rattle.graph.specs.Table.{in_table, row_width, RowsFit}
 use Rattle.graph.proofs.Created.{new_subject, new_object}
+use Rattle.graph.proofs.States.{same_state}
 use Rattle.graph.proofs.graph.Graph.grow.Goals as goal
 
 pub overflow_add-self : goal.overflow_add-self
 unfolding state
 overflow_add-self c = search rules
 
+pub make_room-requires : goal.make_room-requires
+unfolding state
+make_room-requires c = (c.requires, c.args.self.now.held)
+
+-- Rows of one vertex more.
+still_fit : (n : ℕ) (was rows : List ℕ) → RowsFit n was → ((p r q : ℕ) → in_table (row_width (n + 1)) rows p r q ≡ in_table (row_width n) was p r q) → RowsFit (n + 1) rows
+still_fit n was rows fit e p r q t = let k = fit p r q (subst T (e p r q) t) in (omega arith, omega arith)
+
+later : (n : ℕ) (f : ℕ → Bool) → ((k : ℕ) → T (f k) → k < n) → (k : ℕ) → T (f k) → k < n + 1
+later n f h k t = let l = h k t in omega arith
+
+with_new : (n : ℕ) (f f' : ℕ → Bool) → ((k : ℕ) → f' k ≡ (eqb k n || f k)) → ((k : ℕ) → T (f k) → k < n) → (k : ℕ) → T (f' k) → k < n + 1
+with_new n f f' e h k t = elim (cases (eqb k n) (f k) (subst T (e k) t)) [ inl u ↦ let d = eqb→eq k n u in omega arith | inr u ↦ later n f h k u ]
+
 pub invariant_of-self : goal.invariant_of-self
 unfolding state
-invariant_of-self c = search rules
+invariant_of-self c =
+    let g = c.args.self.now in
+    let fits = c.requires in
+    record {
+      some = omega arith;
+      few = omega arith;
+      acting = with_new g.size (holds g.subjects) (holds c.insert.new.self) c.insert.ensures g.acting;
+      whole = c.make_room.ensures.room;
+      held = still_fit g.size g.rows c.make_room.new.rows g.held c.make_room.ensures.same;
+    }
 
 pub invariant_of-self-else-subject : goal.invariant_of-self-else-subject
 unfolding state
-invariant_of-self-else-subject c = search rules
+invariant_of-self-else-subject c =
+    let g = c.args.self.now in
+    let fits = c.requires in
+    record {
+      some = omega arith;
+      few = omega arith;
+      acting = later g.size (holds g.subjects) g.acting;
+      whole = c.make_room.ensures.room;
+      held = still_fit g.size g.rows c.make_room.new.rows g.held c.make_room.ensures.same;
+    }
 
-one_more : (n : ℕ) (f f' : ℕ → Bool) (h : ℕ → ℕ → ℕ → Bool) → ((k : ℕ) → f k ≡ f' k) → ◌≡◌ {A = State} (record { size = n + 1; subject = f; has = h }) (record { size = suc n; subject = f'; has = h })
-one_more n f f' h e = ap₂ (λ m g. record { size = m; subject = g; has = h }) (add-one n) (fun_ext e)
+one_more :
+    (n : ℕ) (f f' : ℕ → Bool) (h h' : ℕ → ℕ → ℕ → Bool) → ((k : ℕ) → f k ≡ f' k) → ((x k y : ℕ) → h x k y ≡ h' x k y) →
+    ◌≡◌ {A = State} (record { size = n + 1; subject = f; has = h }) (record { size = suc n; subject = f'; has = h' })
+one_more n f f' h h' e d = ap₂ (λ m g. record { size = m; subject = g; has = h }) (add-one n) (fun_ext e) ∙ same_state (suc n) f' h h' d
 
 pub returns-then-subject : goal.returns-then-subject
 unfolding state
-returns-then-subject c = record { after = one_more c.args.self.now.size _ _ (in_table c.args.self.now.rows) (λ k. c.insert.ensures k ∙ new_subject c.args.self.now.size (holds c.args.self.now.subjects) c.args.subject c.if-subject.true k) }
+returns-then-subject c =
+    let g = c.args.self.now in
+    record { after = one_more g.size _ _ _ _ (λ k. c.insert.ensures k ∙ new_subject g.size (holds g.subjects) c.args.subject c.if-subject.true k) c.make_room.ensures.same }
 
 pub returns-else-subject : goal.returns-else-subject
 unfolding state
-returns-else-subject c = record { after = one_more c.args.self.now.size _ _ (in_table c.args.self.now.rows) (new_object c.args.self.now.size (holds c.args.self.now.subjects) c.args.subject c.if-subject.false c.args.self.now.acting) }
+returns-else-subject c =
+    let g = c.args.self.now in
+    record { after = one_more g.size _ _ _ _ (new_object g.size (holds g.subjects) c.args.subject c.if-subject.false g.acting) c.make_room.ensures.same }

@@ -2,13 +2,14 @@
 use Rattle.std.proofs.Common.{◌≡◌, ℕ, Bool, true, T, ltb, sym, ◌∙◌, subst, inl, inr, arith, ltb→lt, lt→ltb, rules}
 use borrow.Author.Tests.{both_ways}
 use Rattle.std.proofs.lemmas.Bool.{cases_lt}
+use Rattle.std.proofs.lemmas.List.{length-replicate}
 use Rattle.model.specs.Bounded.{all_below, implies}
 use Rattle.model.proofs.Tests.{all_at, all_from, implied, implying, is_true}
 use Rattle.bits.specs.Sets.{holds, VertexSet}
 use Rattle.bits.proofs.Holds.{below_fits, holds_past}
 use Rattle.graph.specs.Graphs.{state}
-use Rattle.graph.specs.Table.{SubjectsFit}
-use Rattle.graph.proofs.Rows.{bare_table, whole_of}
+use Rattle.graph.specs.Table.{row_width, SubjectsFit}
+use Rattle.graph.proofs.Rows.{bare_table}
 use Rattle.graph.proofs.States.{same_state}
 use Rattle.graph.proofs.graph.Graph.new.Goals as goal
 use Rattle.graph.proofs.graph.Graph.new.Goals.{then-size-eq0-via-then-size-eq0, then-size-eq0-via-else-size-eq0+then-not-is_subset}
@@ -40,10 +41,10 @@ invariant_of-result c =
       some = omega (arith, c.if-size-eq0.false);
       few = search rules;
       acting = fit c.args.subjects c.below.result c.args.size c.is_subset.result (below_fits 4 c.args.size c.below.result (omega arith) c.below.ensures) c.is_subset.ensures c.if-not-is_subset.false;
-      whole = whole_of 256 c.empty.result;
-      held = (λ p r q t. absurd (subst T (bare_table c.empty.result c.empty.ensures 256 8 p r q) t));
+      whole = length-replicate {A = ℕ} 8192 0;
+      held = (λ p r q t. absurd (subst T (bare_table (row_width c.args.size) 8192 p r q) t));
     }
 
 pub returns : goal.returns
 unfolding state
-returns c = record { cases = same_state c.args.size (holds c.args.subjects) _ _ (λ p r q. bare_table c.empty.result c.empty.ensures 256 8 p r q) }
+returns c = record { cases = same_state c.args.size (holds c.args.subjects) _ _ (λ p r q. bare_table (row_width c.args.size) 8192 p r q) }

@@ -7,4 +7,4 @@ use Rattle.history.proofs.reading.Reading.next_question.Goals as goal
 pub returns-clause-value : goal.returns-clause-value
 returns-clause-value c =
     let r = c.loop-self.self in
-    sym c.loop-self.invariant.0 ∙ nothing_left r.input.bytes.now r.fit r.input.at r.acts (tracked r.book) (leb-true _ _ (sym c.is_done.ensures ∙ c.loop-self-test.false))
+    sym c.loop-self.invariant.0 ∙ nothing_left r.input.bytes.now r.fit r.input.at r.acts (tracked c.loop-self.book) (leb-true _ _ (sym c.is_done.ensures ∙ c.loop-self-test.false))

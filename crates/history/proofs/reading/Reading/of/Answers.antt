@@ -1,6 +1,5 @@
 use Rattle.std.proofs.Common.{length, ap, ◌∙◌}
 use Rattle.std.proofs.lemmas.Result.{err_from_is_err_and}
-use Rattle.changing.specs.Of.{tracked}
 use Rattle.graph.specs.Graphs.{state}
 use Rattle.history.specs.Posed.{posed_at}
 use Rattle.history.proofs.Turns.{no_book, book_posed}
@@ -15,5 +14,5 @@ pub returns : goal.returns
 returns c =
     let bs = c.args.bytes.now in
     let at = c.in_ok-graph.input.at in
-    ap (λ b. posed_at (length b) b at 0 (tracked c.of.result)) c.in_ok-graph.ensures.rest ∙
-    (ap (posed_at (length bs) bs at 0) c.of.ensures.value ∙ book_posed bs (state c.in_ok-graph.graph) at c.in_ok-graph.ensures.value)
+    let s = state c.in_ok-graph.graph in
+    ap (λ b. posed_at (length b) b at 0 s) c.in_ok-graph.ensures.rest ∙ book_posed bs s at c.in_ok-graph.ensures.value

@@ -11,13 +11,13 @@ returns-in_err-question-clause-value c =
     let r = c.args.self.now in
     let p = err_from_is_err_and c.from_residual.result c.from_residual.ensures.1 in
     rw (p.1, p.2)
-    (ask_broken r.input.bytes.now r.fit r.input.at r.acts (tracked r.book) c.requires.there c.requires.asks _
+    (ask_broken r.input.bytes.now r.fit r.input.at r.acts (tracked c.args.book.now) c.requires.there c.requires.asks _
     (c.in_err-question.ensures.value.1 ∙ ap (posed_question_at r.input.bytes.now r.input.at) (c.size.ensures.value ∙ ap (λ s. s.size) c.graph.ensures.value)))
 
 pub returns-clause-value : goal.returns-clause-value
 returns-clause-value c =
     let r = c.args.self.now in
-    let s = tracked r.book in
+    let s = tracked c.args.book.now in
     let q = c.in_ok-question.question in
     let next = c.read_posed.new.input.at in
     let read = c.in_ok-question.ensures.value in

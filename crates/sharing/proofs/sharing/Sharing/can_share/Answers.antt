@@ -1,6 +1,6 @@
 use Rattle.std.proofs.Common.{◌+◌, ◌*◌, ◌≤◌, length, sym, ap, ◌∙◌, subst, ap₂, inl, inr, arith}
 use Rattle.bits.specs.Rows.{cell}
-use Rattle.spans.specs.Paths.{row_words}
+use Rattle.graph.specs.Table.{row_width}
 use Rattle.spans.proofs.Wide.{words_cover}
 use Rattle.sharing.specs.Of.{answered}
 use Rattle.sharing.specs.Table.{table_words}
@@ -34,8 +34,8 @@ returns c =
     record {
       value =
           c.row_contains.ensures
-          ∙ ap₂ (λ w i. cell c.args.self.now.rows.now w i c.from.result) (c.width.ensures ∙ ap row_words c.size-n.ensures.value) c.row.ensures
-          ∙ ap (λ x. cell c.args.self.now.rows.now (row_words (answered c.args.self.now).size) (8 * c.args.question.target + c.args.question.right) x) c.from.ensures
+          ∙ ap₂ (λ w i. cell c.args.self.now.rows.now w i c.from.result) (c.width.ensures ∙ ap row_width c.size-n.ensures.value) c.row.ensures
+          ∙ ap (λ x. cell c.args.self.now.rows.now (row_width (answered c.args.self.now).size) (8 * c.args.question.target + c.args.question.right) x) c.from.ensures
           ∙ c.args.self.now.shared (8 * c.args.question.target + c.args.question.right) c.args.question.holder
           ∙ row_says (answered c.args.self.now) c.args.question.holder c.args.question.right c.args.question.target (omega arith);
     }

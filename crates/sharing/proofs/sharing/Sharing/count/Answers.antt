@@ -1,7 +1,7 @@
 use Rattle.std.proofs.Common.{◌+◌, ◌*◌, ◌≤◌, length, sym, ap, ◌∙◌, subst, ap₂, inl, inr, arith}
 use Rattle.bits.specs.Rows.{cell}
 use Rattle.model.specs.Sharing.{can_share}
-use Rattle.spans.specs.Paths.{row_words}
+use Rattle.graph.specs.Table.{row_width}
 use Rattle.spans.proofs.Wide.{words_cover, words_most}
 use Rattle.sharing.specs.Of.{answered}
 use Rattle.sharing.specs.Table.{table_words}
@@ -38,7 +38,7 @@ returns c =
           c.row_count.ensures
           ∙ count_stops (64 * c.width.result) (answered c.args.self.now).size _ (λ x. can_share (answered c.args.self.now) x c.args.r c.args.y) (omega arith)
           (λ x.
-          ap₂ (λ w i. cell c.args.self.now.rows.now w i x) (c.width.ensures ∙ ap row_words size) c.row.ensures
+          ap₂ (λ w i. cell c.args.self.now.rows.now w i x) (c.width.ensures ∙ ap row_width size) c.row.ensures
           ∙ c.args.self.now.shared (8 * c.args.y + c.args.r) x
           ∙ row_says (answered c.args.self.now) x c.args.r c.args.y (omega arith))
           (λ x l. not_there c.args.self.now.graph.now x c.args.r c.args.y (λ h. let a = h.0 in omega arith));

@@ -2,8 +2,8 @@ use Rattle.std.proofs.Common.{◌≡◌}
 use Rattle.bits.specs.Sets.{among}
 use Rattle.model.specs.Bit.{bit}
 use Rattle.model.specs.Bounded.{count_below}
-use Rattle.sharing.specs.Filling.{cells}
-use Rattle.sharing.proofs.Gathered.{Shared, in_word}
+use Rattle.sharing.specs.Filling.{cells, in_word}
+use Rattle.sharing.proofs.Gathered.{Shared}
 use Rattle.sharing.proofs.table.Table.share_word.Given as goal
 
 abbrev pub invariant-loop-b : goal.invariant-loop-b

@@ -1,6 +1,7 @@
 use Rattle.std.proofs.Common.{◌*◌, ◌≤◌, length, sym, ap, ◌∙◌, subst, arith}
 use Rattle.bits.specs.Rows.{cell}
 use Rattle.graph.specs.Graphs.{state}
+use Rattle.graph.proofs.Rows.{width_few, width_many}
 use Rattle.spans.proofs.Wide.{words_few, words_many}
 use Rattle.sharing.specs.Table.{table_words}
 use Rattle.sharing.proofs.table.work.filled.Goals as goal
@@ -9,13 +10,13 @@ pub worked_out-requires : goal.worked_out-requires
 unfolding table_words
 worked_out-requires c =
     let few = words_few (state c.args.graph.now).size (omega (arith, c.size.ensures.value)) in
-    (subst (λ w. 8 * (state c.args.graph.now).size * w ≤ length c.args.rows.now) few c.requires, omega (arith, c.size.ensures.value), omega arith)
+    (subst (λ w. 8 * (state c.args.graph.now).size * w ≤ length c.args.rows.now) few c.requires, sym (width_few (state c.args.graph.now).size (omega (arith, c.size.ensures.value))))
 
 pub worked_out-requires-else-size-le-NARROW : goal.worked_out-requires-else-size-le-NARROW
 unfolding table_words
 worked_out-requires-else-size-le-NARROW c =
     let many = words_many (state c.args.graph.now).size (omega (arith, c.size.ensures.value)) in
-    (subst (λ w. 8 * (state c.args.graph.now).size * w ≤ length c.args.rows.now) many c.requires, omega (arith, c.size.ensures.value), omega arith)
+    (subst (λ w. 8 * (state c.args.graph.now).size * w ≤ length c.args.rows.now) many c.requires, sym (width_many (state c.args.graph.now).size (omega (arith, c.size.ensures.value))))
 
 pub returns-then-size-le-NARROW : goal.returns-then-size-le-NARROW
 unfolding table_words

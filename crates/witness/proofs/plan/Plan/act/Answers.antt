@@ -7,15 +7,15 @@ pub returns-in_err-count : goal.returns-in_err-count
 returns-in_err-count c =
     record {
       goes = λ b w was at.
-          stopped b _ c.from_residual.result c.args.self.now was _ c.from_residual.ensures.0
-          (no_space b w c.args.self.now was c.args.out.now c.args.rule at _ refl c.in_err-count.ensures);
+          stopped _ b _ c.from_residual.result c.args.self.now was _ c.from_residual.ensures.1
+          (no_space b w c.args.self.now was c.args.out.now c.args.rule at _ _ refl c.in_err-count.ensures);
     }
 
 pub returns-in_err-apply : goal.returns-in_err-apply
 returns-in_err-apply c =
     record {
       goes = λ b w was at.
-          stopped b _ c.from_residual-in_err-apply.result _ was _ c.from_residual-in_err-apply.ensures.0
+          stopped _ b _ c.from_residual-in_err-apply.result _ was _ c.from_residual-in_err-apply.ensures.1
           (refused b w c.args.self.now was c.args.out.now c.args.rule at _ c.in_err-apply.ensures.value);
     }
 

@@ -13,7 +13,7 @@ returns-in_err-create c =
           (stops (λ b. doing (creating a.q))
           (λ b w. taking_unless_held a.q new a.held.right a.held.to (given b a.p a.u new a.held.right a.held.to (given b a.q a.v a.u 1 new w)))
           _ _ _
-          (λ b v w g. grows_left b v (given b a.q a.v a.u 1 new w) a.p a.u new a.q a.held.right a.held.to (grows_given b v w a.q a.v a.u 1 new g)) c.in_err-create.ensures.goes c.from_residual.ensures.0);
+          (λ b v w g. grows_left b v (given b a.q a.v a.u 1 new w) a.p a.u new a.q a.held.right a.held.to (grows_given b v w a.q a.v a.u 1 new g)) _ c.in_err-create.ensures.goes c.from_residual.ensures.1);
     }
 
 pub returns-in_err-give : goal.returns-in_err-give
@@ -25,6 +25,6 @@ returns-in_err-give c =
           (stops (λ b w. given b a.q a.v a.u 1 new (doing (creating a.q) w))
           (λ b w. taking_unless_held a.q new a.held.right a.held.to (given b a.p a.u new a.held.right a.held.to w))
           _ _ _
-          (λ b v w. grows_left b v w a.p a.u new a.q a.held.right a.held.to) (λ b w was at. c.in_err-give.ensures.goes b _ was (c.in_ok-create.ensures.goes b w was at))
-          c.from_residual-in_err-give.ensures.0);
+          (λ b v w. grows_left b v w a.p a.u new a.q a.held.right a.held.to) _ (λ b w was at. c.in_err-give.ensures.goes b _ was (c.in_ok-create.ensures.goes b w was at))
+          c.from_residual-in_err-give.ensures.1);
     }

@@ -15,7 +15,7 @@ returns-in_err-take_to c =
       goes = stops (λ b. taking_to b e.last e.holder q.right q.target)
           (λ b w. handed_to b e.first q.holder q.right q.target (over_row b e.last (shortest_row_of b.size (bridge b) e.last e.first) q.right q.target w)) _ _ _
           (λ b v w g. grows_handed b v _ e.first q.holder q.right q.target (grows_row b v w e.last (shortest_row_of b.size (bridge b) e.last e.first) q.right q.target g))
-          c.in_err-take_to.ensures.goes c.from_residual.ensures.0;
+          _ c.in_err-take_to.ensures.goes c.from_residual.ensures.1;
     }
 
 pub returns-in_err-over_row : goal.returns-in_err-over_row
@@ -27,10 +27,10 @@ returns-in_err-over_row c =
           let mid = c.in_ok-take_to.ensures.goes b w was at in
           let w1 = taking_to b e.last e.holder q.right q.target w in
           let w2 = over_row b e.last c.deref.result.now q.right q.target w1 in
-          stopped b _ c.from_residual-in_err-over_row.result _ was _ c.from_residual-in_err-over_row.ensures.0
-          (subst (λ (row : List ℕ). Halted b (length was) (handed_to b e.first q.holder q.right q.target (over_row b e.last row q.right q.target w1)))
+          stopped _ b _ c.from_residual-in_err-over_row.result _ was _ c.from_residual-in_err-over_row.ensures.1
+          (subst (λ (row : List ℕ). Halted c.in_err-over_row.field-0.0 b (length was) (handed_to b e.first q.holder q.right q.target (over_row b e.last row q.right q.target w1)))
           (c.deref.ensures.0 ∙ c.row-row.ensures.value ∙ ap (λ (z : State). shortest_row_of z.size (bridge z) e.last e.first) mid.about)
-          (halted_on b (length was) w2 _ (grows_handed b w2 w2 e.first q.holder q.right q.target (grows_not w2))
+          (halted_on _ b (length was) w2 _ (grows_handed b w2 w2 e.first q.holder q.right q.target (grows_not w2))
           (c.in_err-over_row.ensures.goes b w1 was mid)));
     }
 

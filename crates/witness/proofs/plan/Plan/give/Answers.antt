@@ -7,5 +7,5 @@ returns-in_err-take_to c =
     let a = c.args in
     record {
       goes = stops (λ b. taking_to b a.p a.u 1 a.into) (λ b. doing (granting a.p a.into a.held.right a.held.to)) _ _ _ (λ b v w. grows_doing v w (granting a.p a.into a.held.right a.held.to))
-          c.in_err-take_to.ensures.goes c.from_residual.ensures.0;
+          _ c.in_err-take_to.ensures.goes c.from_residual.ensures.1;
     }

@@ -10,7 +10,7 @@ returns-in_err-give c =
     record {
       goes = stops (λ b. given b a.p a.u a.c a.held.right a.held.to) (λ b. taking_unless_held a.q a.c a.held.right a.held.to) _ _ _
           (λ b v w. grows_held v w a.q a.c a.held.right a.held.to)
-          c.in_err-give.ensures.goes c.from_residual.ensures.0;
+          _ c.in_err-give.ensures.goes c.from_residual.ensures.1;
     }
 
 pub returns : goal.returns

@@ -27,8 +27,8 @@ returns-in_err-over_bridge c =
           let h = c.args.held in
           let row = c.args.row.now in
           let so = subst (Over b h.right h.to _ l.self was l.out l.at) (rest_more row l.next-index (omega arith)) (l.invariant.1 b w was at) in
-          stopped b _ c.from_residual.result _ was _ c.from_residual.ensures.0
-          (over_halted b h.right h.to _ l.self was l.out l.at (get_or row l.next-index 0) (drop (l.next-index + 1) row) so
+          stopped _ b _ c.from_residual.result _ was _ c.from_residual.ensures.1
+          (over_halted b h.right h.to _ l.self was l.out l.at (get_or row l.next-index 0) (drop (l.next-index + 1) row) so _
           (c.in_err-over_bridge.ensures.goes b so.so_far was so.stands));
     }
 

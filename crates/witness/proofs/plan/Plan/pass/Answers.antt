@@ -10,5 +10,5 @@ returns-in_err-give c =
     record {
       goes = stops (λ b. given b a.p a.u a.v a.held.right a.held.to) (λ b. taking_to b a.q a.v a.held.right a.held.to) _ _ _
           (λ b v w. grows_to b v w a.q a.v a.held.right a.held.to)
-          c.in_err-give.ensures.goes c.from_residual.ensures.0;
+          _ c.in_err-give.ensures.goes c.from_residual.ensures.1;
     }

@@ -27,9 +27,9 @@ returns-in_err-take_unless_held c =
           let i = c.path.next-index in
           let next = get_or path i 0 in
           let so = subst (Along b c.args.p c.args.held.right c.args.held.to _ c.path.self was c.path.out c.path.at) (rest_more path i (omega arith)) (c.path.invariant.1 b w was at) in
-          stopped b _ c.from_residual.result _ was _ c.from_residual.ensures.0
+          stopped _ b _ c.from_residual.result _ was _ c.from_residual.ensures.1
           (along_halted b c.args.p c.args.held.right c.args.held.to _ c.path.self was c.path.out c.path.at next (drop (c.path.next-index + 1) path) so
-          c.if-has.ensures.value (c.in_err-take_unless_held.ensures.goes b so.so_far was so.stands));
+          c.if-has.ensures.value _ (c.in_err-take_unless_held.ensures.goes b so.so_far was so.stands));
     }
 
 pub returns : goal.returns

@@ -11,7 +11,7 @@ use Rattle.witness.proofs.Performed.{performed_all, performed_applicable}
 use Rattle.witness.proofs.routes.Routes.write_plan.Goals as goal
 
 pub returns-then-out-lt-HEAD : goal.returns-then-out-lt-HEAD
-returns-then-out-lt-HEAD c = λ t h l. omega (arith, yes_length (witness_of (routed c.args.self.now) c.args.question))
+returns-then-out-lt-HEAD c = λ l. omega (arith, yes_length (witness_of (routed c.args.self.now) c.args.question))
 
 pub returns-in_err-carry : goal.returns-in_err-carry
 returns-in_err-carry c =
@@ -21,10 +21,11 @@ returns-in_err-carry c =
     let free = take (length was - 5) (drop 5 was) in
     let rules =
     ap (λ (v : Work). v.rules) (work_of b (well_formed-law c.args.self.now.graph.now) q c.args.ends c.requires.exact) ∙ sym (witness_is b q c.requires.lacks) in
-    given_up b (witness_of b q) c.from_residual.result was _ c.from_residual.ensures.0
-    (λ t h l. subst (λ (z : List Rule). T (performable b z) → length (acts_bytes z) ≤ length free → ⊥) rules
-    (c.in_err-carry.ensures.goes b (begun b) free (c.of-plan.ensures free))
-    (performed_all b (witness_of b q) t h) (omega (arith, yes_length (witness_of b q), free_length was was was (length was - 5) refl (omega arith))))
+    let halted = c.in_err-carry.ensures.goes b (begun b) free (c.of-plan.ensures free) in
+    given_up _ b (witness_of b q) c.from_residual.result was _ c.from_residual.ensures.1
+    (λ is l. subst (λ (z : List Rule). length (acts_bytes z) ≤ length free → ⊥) rules (halted.0 is)
+    (omega (arith, yes_length (witness_of b q), free_length was was was (length was - 5) refl (omega arith))))
+    (λ is t h. subst (λ (z : List Rule). T (performable b z) → ⊥) rules (halted.1 is) (performed_all b (witness_of b q) t h))
 
 pub overflow_add-result : goal.overflow_add-result
 overflow_add-result c =

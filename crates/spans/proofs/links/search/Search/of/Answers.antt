@@ -15,7 +15,7 @@ invariant_of-result g c =
     let none : (k : ℕ) → among v c.of.result.found k ≡ false = λ k. ap (λ z. among v z k) c.of.ensures.0 ∙ c.empty.ensures k in
     record {
       searching =
-          searching_none (viewed c.args.view) (well_formed-law c.args.view.links.now.graph.now) c.args.from _ _ _ _ none
+          searching_none (viewed c.args.view) (well_formed-law c.args.view.graph.now) c.args.from _ _ _ _ none
           (λ k. ap (λ b. b && not (among v c.of.result.left k)) (none k))
           (λ k. ap (λ z. among v c.of-2.result.found k && not (among v z k)) (c.of-2.ensures.1 ∙ sym c.of-2.ensures.0) ∙ apart (among v c.of-2.result.found k))
           (λ p. ap (λ z. among v z p) c.of-2.ensures.0 ∙ c.givers.ensures p);

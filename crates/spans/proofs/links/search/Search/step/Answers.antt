@@ -15,7 +15,7 @@ invariant_of-self g c =
     let t = c.in-Some.ensures in
     record {
       searching =
-          searching_out s (well_formed-law c.args.self.now.view.links.now.graph.now) c.args.self.now.from _ _ _ _ c.args.self.now.searching c.in-Some.p _ _ _ _
+          searching_out s (well_formed-law c.args.self.now.view.graph.now) c.args.self.now.from _ _ _ _ c.args.self.now.searching c.in-Some.p _ _ _ _
           (taken_there w out c.pop.new.self c.in-Some.p t).0
           (λ k. c.add.ensures.found k ∙ ap₂ (λ z b. among w z k || b) t.found (c.takes.ensures k))
           (λ k. c.add-in-Some.ensures.found k ∙ ap (λ b. among w into.found k || b) (c.beside.ensures k))
@@ -40,7 +40,7 @@ invariant_of-self-in-Some-pop g c =
     let idle = c.in_default.ensures in
     record {
       searching =
-          searching_into s (well_formed-law c.args.self.now.view.links.now.graph.now) c.args.self.now.from _ _ _ _ c.args.self.now.searching c.in-Some-pop.p _ _ _ _
+          searching_into s (well_formed-law c.args.self.now.view.graph.now) c.args.self.now.from _ _ _ _ c.args.self.now.searching c.in-Some-pop.p _ _ _ _
           (taken_there w into c.pop-in_default.new.self c.in-Some-pop.p t).0
           (λ k. c.add-in-Some-pop-2.ensures.found k ∙ ap₂ (λ z b. among w z k || b) idle.2 (c.itself.ensures k))
           (λ k. c.add-in-Some-pop.ensures.found k ∙ ap₂ (λ z b. among w z k || b) t.found (c.takers.ensures k))

@@ -5,4 +5,4 @@ use Rattle.spans.proofs.links.view.View.subjects.Goals as goal
 pub returns : goal.returns
 returns g c =
     let v = c.args.self.now in
-    λ q. c.resized.ensures q ∙ ap (λ b. ltb q (64 * g.row.V) && b) (c.subjects.ensures.value q) ∙ resized_subjects v.links.now.graph.now g.row.V v.wide q
+    λ q. c.resized.ensures q ∙ ap (λ b. ltb q (64 * g.row.V) && b) (c.subjects.ensures.value q) ∙ resized_subjects v.graph.now g.row.V v.wide q

@@ -1,8 +1,14 @@
-use Rattle.std.proofs.Common.{◌*◌, ◌&&◌, ltb, ap, ◌∙◌}
-use Rattle.spans.proofs.Resized.{resized_holders}
+use Rattle.std.proofs.Common.{◌*◌, ◌&&◌, ltb, ap, ◌∙◌, arith}
+use Rattle.graph.specs.Graphs.{state}
+use Rattle.spans.proofs.Resized.{at_index, resized_holders}
 use Rattle.spans.proofs.links.view.View.takers.Goals as goal
 
 pub returns : goal.returns
 returns g c =
     let v = c.args.self.now in
-    λ q. c.resized.ensures q ∙ ap (λ b. ltb q (64 * g.row.V) && b) (c.takers.ensures.value q) ∙ resized_holders v.links.now.graph.now g.row.V v.wide c.args.p 0 q
+    let all = v.all in
+    λ q.
+    c.resized.ensures q
+    ∙ ap (λ b. ltb q (64 * g.row.V) && b)
+    (at_index v.takers.now c.from.result _ (omega (arith, c.from.ensures)) q ∙ v.taken c.from.result q ∙ ap (λ p. (state v.graph.now).has q 0 p) c.from.ensures)
+    ∙ resized_holders v.graph.now g.row.V v.wide c.args.p 0 q
