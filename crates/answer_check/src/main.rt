@@ -23,6 +23,7 @@ fn main(rt: HostRuntime) -> anyhow::Result<()> {
     run(&rt)
 }
 
+// As in `book`: what a program does with its request is its own, and the console knows no program.
 fn run(rt: &HostRuntime) -> anyhow::Result<()> {
     match console::read_request(rt)? {
         Request::Help => Ok(rt.print(HELP)?),

@@ -63,6 +63,7 @@ impl Certificate {
             claim,
             sets: self,
         };
+        // A loop: a fold over the vertices would be no shorter, and `nothing` says what a derived `Default` would not.
         let mut looked = Looked::nothing();
         for p in 0..graph.size() {
             looked = looked.seen(look.at(p));

@@ -84,6 +84,7 @@ fn split(words: &[String]) -> (Asks, &[String])
     }
 }
 
+// `output` is lent as the request has it: an `Option<&str>` would be made of it only to be taken apart.
 // Answers an input by one of two rules: `lines` where only lines are wanted, `records` where what shows them is too.
 fn answer<L, R>(
     rt: &HostRuntime,

@@ -15,6 +15,7 @@ use witness::{Routes, longest_answer};
 pub fn answer_lines(heap: Global, bytes: &[u8]) -> Result<Vec<u8>, InputError>
     ensures { MatchResult result (λ v. Promised bytes.now v.items) (λ e. IsRefusedSo e (posed bytes.now)) }
 {
+    // These lines stand in both calls, since the words are lent and live here.
     let (graph, mut reading) = Reading::of(bytes)?;
     let mut words = [0; WORDS];
     let mut book = ChangingGraph::of(graph, &mut words);
