@@ -9,6 +9,7 @@ ghost use Rattle.std.specs.Prelude.{◌≤◌};
 use crate::routes::Routes;
 use graph::Graph;
 
+// What is carried along is told to each step, and is no field: each step may carry another right.
 #[derive(Drop)]
 pub struct Plan<'a> {
     // What it is chosen from.
