@@ -1,5 +1,5 @@
 -- The laws of tables of bits.
-use Rattle.std.proofs.Common.{◌≡◌, ℕ, ◌+◌, ◌-◌, ◌*◌, ◌/◌, ◌%◌, ◌<◌, ◌≤◌, false, cond, ◌&&◌, ◌||◌, eqb, ltb, leb, ◌⊎◌, List, length, get_or, take, drop, set, sym, ap, ◌∙◌, ap₂, inl, inr, mul-le-mul_right, suc-mul, arith}
+use Rattle.std.proofs.Common.{◌≡◌, ℕ, ◌+◌, ◌-◌, ◌*◌, ◌/◌, ◌%◌, ◌<◌, ◌≤◌, false, cond, ◌&&◌, ◌||◌, eqb, ltb, leb, ◌⊎◌, List, length, get_or, take, drop, set, replicate, sym, ap, ◌∙◌, ap₂, inl, inr, mul-le-mul_right, suc-mul, arith}
 use lib.Bits.{bit_or}
 use Rattle.std.proofs.lemmas.List.{get_or-take, get_or-drop, length-take-le, length-drop}
 use Rattle.std.proofs.lemmas.Bool.{cases_eq, cases_lt, cases_order, lt-ltb, le-ltb}
@@ -8,11 +8,16 @@ use Rattle.model.specs.Bit.{bit}
 use Rattle.bits.specs.Sets.{member}
 use Rattle.bits.specs.Rows.{cell}
 use Rattle.bits.proofs.Bit.{bit_or-law}
-use Rattle.bits.proofs.Member.{member_past, member_set, member_at, member_word}
+use Rattle.bits.proofs.Member.{member_past, member_set, member_at, member_word, member_zeros}
 
 pub cell_past : (t : List ℕ) (w x k : ℕ) → 64 * w ≤ k → cell t w x k ≡ false
 unfolding cell
 cell_past t w x k h = ap (λ b. b && member t (64 * (x * w) + k)) (le-ltb k (64 * w) h)
+
+-- A table of zeroes.
+pub cell_zeros : (n w x k : ℕ) → cell (replicate n 0) w x k ≡ false
+unfolding cell
+cell_zeros n w x k = let zero = member_zeros n (64 * (x * w) + k) in grind (arith, nat_tests)
 
 -- A row has nothing past its words.
 pub cell_room : (t : List ℕ) (w x k v : ℕ) → w ≤ v → (ltb k (64 * v) && cell t w x k) ≡ cell t w x k
@@ -56,6 +61,11 @@ member_row t w x k h =
           member_past (take w (drop (x * w) t)) k (omega (arith, length_row t (x * w) w h))
           ∙ ap (λ b. b && member t (64 * (x * w) + k)) (sym (le-ltb k (64 * w) l))
     ]
+
+-- A number of a row, by its word and its bit.
+pub cell_at : (t : List ℕ) (w x k : ℕ) → k < 64 * w → member t (64 * (x * w + k / 64) + k % 64) ≡ cell t w x k
+unfolding cell
+cell_at t w x k h = ap (member t) (omega arith) ∙ sym (ap (λ b. b && member t (64 * (x * w) + k)) (lt-ltb k (64 * w) h))
 
 -- Word i of row x, read and written.
 pub cell_word : (t : List ℕ) (w x i j : ℕ) → i < w → j < 64 → bit (get_or t (x * w + i) 0) j ≡ cell t w x (64 * i + j)

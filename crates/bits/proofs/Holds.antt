@@ -1,9 +1,10 @@
 -- The laws of sets.
-use Rattle.std.proofs.Common.{◌≡◌, ℕ, ◌*◌, ◌<◌, ◌≤◌, Bool, true, false, ◌&&◌, ltb, [], length, sym, refl, ap, ◌∙◌, inl, inr, arith}
-use Rattle.std.proofs.lemmas.Bool.{cases_lt, lt-ltb, le-ltb, false≢true}
+use Rattle.std.proofs.Common.{◌≡◌, ℕ, ◌*◌, ◌<◌, ◌≤◌, Bool, true, false, cond, ◌&&◌, eqb, ltb, List, [], length, replicate, get_or, set, sym, refl, subst, ap, ◌∙◌, inl, inr, arith}
+use Rattle.std.proofs.lemmas.Bool.{cases_eq, cases_lt, lt-ltb, le-ltb, cond-true, cond-false, eq-eqb, ne_eqb, false≢true}
+use Rattle.std.proofs.lemmas.List.{get_or-set_same, get_or-set_other, get_or-replicate, get_or_past, length-replicate}
 use Rattle.std.proofs.lemmas.Bool.Decides.{nat_tests}
 use Rattle.bits.specs.declared.set.BitSet.{BitSet}
-use Rattle.bits.specs.Sets.{VertexSet, among, holds, member, none}
+use Rattle.bits.specs.Sets.{VertexSet, among, holds, in_row, member, none}
 use Rattle.bits.proofs.Member.{member_past}
 
 pub among_past : (w : ℕ) (s : BitSet w) (k : ℕ) → 64 * w ≤ k → among w s k ≡ false
@@ -44,3 +45,24 @@ holds_none k = ap (λ b. ltb k 256 && b) (member_past [] k (omega arith)) ∙ la
     law : (b : Bool) → (b && false) ≡ false
     law true = refl
     law false = refl
+
+-- Sets in a list, after one was written, and where none has a member.
+pub row_set : (rows : List VertexSet) (i : ℕ) (v : VertexSet) → i < length rows → (j q : ℕ) → in_row (set rows i v) j q ≡ cond (eqb j i) (holds v q) (in_row rows j q)
+unfolding in_row
+row_set rows i v h j q =
+    elim (cases_eq j i) [
+      | inl e ↦ at_i e
+      | inr d ↦ ap (λ s. holds s q) (get_or-set_other rows i j v none d) ∙ sym (cond-false (eqb j i) _ _ (ne_eqb j i d))
+    ]
+  where
+    at_i : j ≡ i → holds (get_or (set rows i v) j none) q ≡ cond (eqb j i) (holds v q) (holds (get_or rows j none) q)
+    at_i e =
+        ap (λ m. holds (get_or (set rows i v) m none) q) e ∙ (ap (λ s. holds s q) (get_or-set_same rows i v none h) ∙ sym (cond-true (eqb j i) _ _ (eq-eqb j i e)))
+
+pub bare_row : (v : VertexSet) → ((k : ℕ) → holds v k ≡ false) → (n i q : ℕ) → in_row (replicate n v) i q ≡ false
+unfolding in_row
+bare_row v e n i q =
+    elim (cases_lt i n) [
+      | inl h ↦ ap (λ s. holds s q) (get_or-replicate n i v none h) ∙ e q
+      | inr h ↦ ap (λ s. holds s q) (get_or_past (replicate n v) i none (subst (λ m. m ≤ i) (sym (length-replicate n v)) h)) ∙ holds_none q
+    ]

@@ -1,5 +1,5 @@
 -- Sets of numbers: as words of 64 bits, as a BitSet, and as bytes.
-use Rattle.std.specs.Prelude.{◌≡◌, ℕ, zero, suc, ◌+◌, ◌-◌, ◌*◌, ◌/◌, ◌%◌, ◌^◌, Bool, cond, ◌&&◌, List, [], ◌∷◌, length, nat_lt, slice_index}
+use Rattle.std.specs.Prelude.{◌≡◌, ℕ, zero, suc, ◌+◌, ◌-◌, ◌*◌, ◌/◌, ◌%◌, ◌^◌, Bool, cond, ◌&&◌, List, [], ◌∷◌, length, nat_lt, slice_index, slice_index_or}
 use Rattle.model.specs.Bit.{bit}
 use Rattle.bits.specs.declared.set.BitSet.{BitSet}
 
@@ -25,6 +25,10 @@ holds = among 4
 -- What a list of sets has past its end: a set with no member.
 abbrev pub none : VertexSet
 none = record { words = [] }
+
+-- Is k in set i of a list?
+unfoldable pub in_row : List VertexSet → ℕ → ℕ → Bool
+in_row rows i k = holds (slice_index_or rows i none) k
 
 -- The number whose n lowest bits are f 0, f 1 and so on, and that has no others.
 unfoldable pub bits_value : ℕ → (ℕ → Bool) → ℕ

@@ -22,7 +22,7 @@ pub fn row_contains(rows: &[u64], w: usize, x: usize, k: usize) -> bool
     requires { (x * w + w ≤ length rows.now) × (k < 64 * w) }
     ensures { result ≡ cell rows.now w x k }
 {
-    words::has(row(rows, w, x), k / 64, k % 64)
+    words::has(rows, x * w + k / 64, k % 64)
 }
 
 pub fn row_count(rows: &[u64], w: usize, x: usize) -> usize
@@ -101,14 +101,6 @@ fn add_words(rows: &mut [u64], w: usize, x: usize, words: &[u64])
     ensures { (y k : ℕ) → cell rows.new w y k ≡ (cell rows.old w y k || (y == x && (nat_lt k (64 * w) && member words.now k))) }
 {
     unite(&mut rows[x * w..x * w + w], words);
-}
-
-// What row x has, as a set of vertices: `BitSet::at` where the width is known only when the program runs.
-pub fn row_set(rows: &[u64], w: usize, x: usize) -> VertexSet
-    requires { (x * w + w ≤ length rows.now) × (w ≤ 4) }
-    ensures { (k : ℕ) → holds result k ≡ cell rows.now w x k }
-{
-    BitSet::of(words::resized(row(rows, w, x)))
 }
 
 // Adds to row x what the set has, of whatever width the row is; what is past its end is left out. So `add_to` is for a set as wide as the row.

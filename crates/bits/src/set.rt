@@ -1,6 +1,6 @@
 // Sets of numbers: a bit for each, 64 to a word.
 
-ghost use Rattle.std.specs.Prelude.{◌≡◌, ℕ, ◌*◌, ◌<◌, ◌≤◌, true, false, not, ◌&&◌, ◌||◌, length, MatchOption, ◌==◌, nat_lt};
+ghost use Rattle.std.specs.Prelude.{◌≡◌, ℕ, ◌-◌, ◌*◌, ◌<◌, ◌≤◌, true, false, not, ◌&&◌, ◌||◌, length, if◌then◌else◌, MatchOption, ◌==◌, nat_lt};
 ghost use Rattle.bits.specs.Members.{TakesLowest};
 ghost use Rattle.bits.specs.Sets.{among, holds, in_bytes, member, set_bytes};
 ghost use Rattle.model.specs.Bounded.{all_below, count_below, implies, some_below};
@@ -131,6 +131,15 @@ impl<const W: usize> BitSet<W> {
 }
 
 impl VertexSet {
+    // The numbers of `low`, and those of `high` as numbers from 128 on.
+    pub fn of_halves(low: BitSet<2>, high: BitSet<2>) -> VertexSet
+        ensures { (k : ℕ) → holds result k ≡ (if nat_lt k 128 then among 2 low k else among 2 high (k - 128)) }
+    {
+        let [a, b] = low.words();
+        let [c, d] = high.words();
+        BitSet::of([a, b, c, d])
+    }
+
     pub fn contains(&self, v: u8) -> bool
         ensures { result ≡ holds self.now v }
     {

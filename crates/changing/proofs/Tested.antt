@@ -1,10 +1,8 @@
 -- Tests over sets of vertices: what belongs to one of a set, and those below a number that pass.
-use Rattle.std.proofs.Common.{◌≡◌, ℕ, zero, suc, ◌<◌, Bool, false, not, ◌&&◌, T, ltb, sym, refl, ap, ◌∙◌, inl, inr, arith, ◌≤◌}
+use Rattle.std.proofs.Common.{◌≡◌, ℕ, ◌<◌, Bool, false, ◌&&◌, T, ltb, sym, ap, ◌∙◌, inl, inr, arith, ◌≤◌}
 use Rattle.std.proofs.lemmas.Bool.{cases_lt, lt-ltb, le-ltb}
-use Rattle.std.proofs.lemmas.Bool.Decides.{nat_tests}
 use Rattle.bits.specs.Sets.{holds, VertexSet}
 use Rattle.bits.proofs.Holds.{holds_past}
-use Rattle.model.specs.Bounded.{some_below, all_below}
 use Rattle.model.proofs.Tests.{is_false, from_false, SomeBoth, some_both, both_from}
 use Rattle.changing.specs.Reached.{of_some}
 

@@ -1,23 +1,21 @@
 -- A graph stands for a well-formed state, whose subjects and rights are among those that there are.
-use Rattle.std.proofs.Common.{◌≡◌, ℕ, ◌+◌, ◌*◌, Ok, Err, ◌<◌, Bool, true, false, cond, ◌&&◌, T, eqb, ltb, sym, ap, ◌∙◌, subst, ltb→lt, lt→ltb}
+use Rattle.std.proofs.Common.{◌≡◌, ℕ, Ok, Err, ◌<◌, Bool, true, false, cond, ◌&&◌, T, eqb, ltb, sym, ap, ◌∙◌, subst, ltb→lt, lt→ltb}
 use Rattle.model.specs.State.{WellFormed, is_vertex, is_subject, take_right, grant_right}
 use Rattle.model.specs.Rules.{applicable}
 use Rattle.model.specs.declared.Rule.{Rule}
 use Rattle.model.specs.declared.Rule.TheVariants.{Take, Grant, Create, Remove}
 use Rattle.model.proofs.Tests.{both, parts, same}
 use Rattle.graph.specs.Graphs.{state, entitled, creates, answer}
-use Rattle.bits.specs.Rows.{cell}
-use Rattle.graph.specs.Table.{in_table, row_width}
+use Rattle.graph.specs.Table.{in_table}
 use Rattle.model.specs.declared.Take.{Take as TakeRule}
 use Rattle.model.specs.declared.Grant.{Grant as GrantRule}
 use Rattle.model.specs.declared.Create.{Create as CreateRule}
-use Rattle.model.specs.declared.Remove.{Remove as RemoveRule}
 use Rattle.graph.specs.declared.graph.Graph.{Graph}
 use Rattle.graph.specs.declared.refusal.Refusal.TheVariants.{NotApplicable, Full}
 
 pub right_below : (g : Graph) (p r q : ℕ) → T ((state g).has p r q) → r < 8
 unfolding state in_table
-right_below g p r q t = ltb→lt r 8 (parts (ltb r 8) (cell g.rows (row_width g.size) (8 * p + r) q) t).0
+right_below g p r q t = ltb→lt r 8 (parts (ltb r 8) (ltb q 256) (parts (ltb p 256) _ (parts (ltb p 256 && (ltb r 8 && ltb q 256)) _ t).0).1).0
 
 pub holder_below : (g : Graph) (p r q : ℕ) → T ((state g).has p r q) → p < (state g).size
 unfolding state
@@ -92,9 +90,6 @@ module _ (g : Graph) (a : Rule) (yes' : true ≡ entitled (state g) a) where
 
   pub create_there : (c : CreateRule) → a ≡ Create c → c.who < (state g).size
   create_there c e = subject_below g c.who (holds_of (Create c) e)
-
-  pub remove_there : (d : RemoveRule) → a ≡ Remove d → d.who < (state g).size
-  remove_there d e = subject_below g d.who (parts ((state g).subject d.who) _ (holds_of (Remove d) e)).0
 
   -- What is answered to an entitled rule depends on the room that is left.
   pub answered : (b : Bool) → (creates a && eqb (state g).size 255) ≡ b → cond b (Err Full) (Ok tt) ≡ answer (state g) a

@@ -6,13 +6,13 @@ use Rattle.model.specs.State.{State, take_right, grant_right}
 use Rattle.model.specs.Rules.{applicable}
 use Rattle.model.specs.declared.Rule.{Rule}
 use Rattle.model.specs.declared.Rule.TheVariants.{Take, Grant, Create, Remove}
-use Rattle.graph.specs.Table.{in_table, row_width}
+use Rattle.graph.specs.Table.{in_table}
 use Rattle.graph.specs.declared.graph.Graph.{Graph}
 use Rattle.graph.specs.declared.refusal.Refusal.{Refusal}
 use Rattle.graph.specs.declared.refusal.Refusal.TheVariants.{NotApplicable, Full}
 
 unfoldable pub state : Graph → State
-state g = record { size = g.size; subject = holds g.subjects; has = in_table (row_width g.size) g.rows }
+state g = record { size = g.size; subject = holds g.subjects; has = in_table g.rows }
 
 -- A state of so many vertices with these subjects, in which nobody has a right.
 abbrev pub bare : ℕ → (ℕ → Bool) → State

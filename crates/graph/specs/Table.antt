@@ -1,19 +1,15 @@
--- How a graph stores rights: for each vertex and right a row of targets, in words, one row after the other.
-use Rattle.std.specs.Prelude.{ℕ, ◌+◌, ◌*◌, ◌<◌, Bool, cond, ◌&&◌, T, List, nat_le, nat_lt, slice_index_or}
+-- How a graph stores rights: for each vertex and right the targets as bits, in words.
+use Rattle.std.specs.Prelude.{ℕ, ◌+◌, ◌*◌, ◌/◌, ◌%◌, ◌<◌, Bool, cond, ◌&&◌, T, List, nat_le, nat_lt}
 use Rattle.bits.specs.Rows.{cell}
-use Rattle.bits.specs.Sets.{holds, none, VertexSet}
+use Rattle.bits.specs.Sets.{holds, VertexSet}
 
--- Is q among the targets of row i?
-unfoldable pub in_row : List VertexSet → ℕ → ℕ → Bool
-in_row rows i q = holds (slice_index_or rows i none) q
-
--- The words of a row of a graph of so many vertices.
+-- The words of a row that has a bit for each of so many vertices.
 unfoldable pub row_width : ℕ → ℕ
 row_width n = cond (nat_le n 128) 2 4
 
--- Has p right r to q, in rows of w words?
-unfoldable pub in_table : ℕ → List ℕ → ℕ → ℕ → ℕ → Bool
-in_table w rows p r q = nat_lt r 8 && cell rows w (8 * p + r) q
+-- Has p right r to q? Rows of two words: first one for each right of each vertex, with those targets that are below 128, and then as many with the rest.
+unfoldable pub in_table : List ℕ → ℕ → ℕ → ℕ → Bool
+in_table rows p r q = (nat_lt p 256 && (nat_lt r 8 && nat_lt q 256)) && cell rows 2 (2048 * (q / 128) + (8 * p + r)) (q % 128)
 
 -- No subject is past the last vertex.
 abbrev pub SubjectsFit : ℕ → VertexSet → Type 0
@@ -21,4 +17,4 @@ SubjectsFit size subjects = (p : ℕ) → T (holds subjects p) → p < size
 
 -- Nothing is held by or to what isn't there.
 abbrev pub RowsFit : ℕ → List ℕ → Type 0
-RowsFit size rows = (p r q : ℕ) → T (in_table (row_width size) rows p r q) → (p < size) × (q < size)
+RowsFit size rows = (p r q : ℕ) → T (in_table rows p r q) → (p < size) × (q < size)

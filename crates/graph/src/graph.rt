@@ -17,15 +17,21 @@ const MOST: u8 = 255;
 // A row for each right.
 const ROWS: usize = RIGHTS as usize;
 
-// Room for rows as wide as they can be.
-const WORDS: usize = WIDE * ROWS * NUMBERS;
+// The rows of each half of the table: as many as there can be.
+const HALF: usize = ROWS * NUMBERS;
+
+// The words of a row of either half.
+const WIDTH: usize = WIDE / 2;
+
+const WORDS: usize = 2 * HALF * WIDTH;
 
 // A fixed table with its size beside it: rules cost no allocation, and a graph can be made where memory is short.
 #[derive(Drop)]
 pub struct Graph {
     size: u8,
     subjects: VertexSet,
-    // Whom a vertex has each right to, in rows of two words for up to 128 vertices and of four for more, so that what is looked at lies near.
+    // Whom a vertex has each right to: in one half of the table those below 128, in the other the rest. So what is looked at in a graph of up to 128 vertices
+    // lies near, and nothing is moved when there is one more.
     rows: [u64; WORDS],
     ghost some: { 0 < size },
     ghost few: { size < 256 },

@@ -4,7 +4,7 @@ use Rattle.std.proofs.lemmas.Bool.{cases_lt}
 use Rattle.model.specs.State.{State}
 use Rattle.model.specs.Sharing.{can_share}
 use Rattle.graph.specs.Table.{row_width}
-use Rattle.spans.proofs.Wide.{words_few, words_many}
+use Rattle.graph.proofs.Rows.{width_few, width_many}
 use Rattle.sharing.specs.Table.{shares_row, table_words}
 use Rattle.sharing.proofs.Holding.{row_fits}
 
@@ -13,10 +13,10 @@ unfolding table_words
 table_is n w e = ap (λ v. 8 * n * v) e
 
 pub table_few : (n : ℕ) → n ≤ 128 → table_words n ≡ 8 * n * 2
-table_few n h = sym (table_is n 2 (sym (words_few n h)))
+table_few n h = sym (table_is n 2 (sym (width_few n h)))
 
 pub table_many : (n : ℕ) → 128 < n → table_words n ≡ 8 * n * 4
-table_many n h = sym (table_is n 4 (sym (words_many n h)))
+table_many n h = sym (table_is n 4 (sym (width_many n h)))
 
 pub table_most : (n : ℕ) → n < 256 → table_words n ≤ 8192
 table_most n h =

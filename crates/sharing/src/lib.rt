@@ -3,7 +3,5 @@
 
 mod sharing;
 mod table;
-#[cfg(test)]
-mod tests;
 
 pub use sharing::Sharing;

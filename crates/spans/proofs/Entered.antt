@@ -2,10 +2,9 @@
 use Rattle.std.proofs.Common.{◌≡◌, ℕ, ◌+◌, ◌<◌, Bool, true, false, ◌&&◌, ◌||◌, T, eqb, List, length, set, sym, ap, subst, ◌∙◌, inl, inr, arith}
 use Rattle.std.proofs.lemmas.Bool.{cases_Bool, cases_eq, cases_lt}
 use Rattle.std.proofs.lemmas.Bool.Decides.{nat_tests}
-use Rattle.bits.specs.Sets.{holds, VertexSet}
+use Rattle.bits.specs.Sets.{holds, in_row, VertexSet}
 use Rattle.bits.proofs.Walk.{Without}
-use Rattle.graph.specs.Table.{in_row}
-use Rattle.graph.proofs.Rows.{row_set}
+use Rattle.bits.proofs.Holds.{row_set}
 use Rattle.model.proofs.Tests.{is_true, is_false, from_true}
 
 -- x was entered for its targets, but for those that are left.

@@ -1,7 +1,6 @@
 pub mod Resized
 pub mod Rounds
 pub mod Closing
-pub mod Wide
 pub mod Entered
 pub mod Search
 pub mod Fronts

@@ -3,11 +3,10 @@ use Rattle.std.proofs.Common.{◌≡◌, ℕ, ◌*◌, ◌<◌, ◌≤◌, Bool,
 use Rattle.std.proofs.lemmas.List.{get_or_default, get_or-set_same, get_or-set_other, get_or-replicate, get_or_past, length-replicate}
 use Rattle.std.proofs.lemmas.Bool.{cases_eq, cases_lt, cond-true, cond-false, eq-eqb, ne_eqb}
 use Rattle.std.proofs.lemmas.Bool.Decides.{nat_tests}
-use Rattle.bits.specs.Sets.{among}
+use Rattle.bits.specs.Sets.{among, in_row}
 use Rattle.bits.specs.declared.set.BitSet.{BitSet}
 use Rattle.bits.proofs.Member.{member_past}
 use Rattle.graph.specs.Graphs.{state}
-use Rattle.graph.specs.Table.{in_row}
 use Rattle.graph.specs.declared.graph.Graph.{Graph}
 use Rattle.graph.proofs.Sound.{target_below, only_subjects, well_formed-law}
 use Rattle.model.specs.State.{is_subject}

@@ -5,7 +5,7 @@ mod view;
 
 ghost use Rattle.std.specs.Prelude.{◌≡◌, ℕ, length};
 ghost use Rattle.graph.specs.Graphs.{state};
-ghost use Rattle.graph.specs.Table.{in_row};
+ghost use Rattle.bits.specs.Sets.{in_row};
 
 use bits::VertexSet;
 use graph::Graph;

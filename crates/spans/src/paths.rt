@@ -4,7 +4,7 @@ mod work;
 
 ghost use Rattle.std.specs.Prelude.{◌≡◌, ℕ};
 ghost use Rattle.graph.specs.Graphs.{state};
-ghost use Rattle.graph.specs.Table.{in_row};
+ghost use Rattle.bits.specs.Sets.{in_row};
 ghost use Rattle.spans.specs.Paths.{path_from};
 
 use bits::VertexSet;

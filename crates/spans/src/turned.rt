@@ -1,8 +1,7 @@
 // Rows of sets, turned round; and who has a right to each vertex.
 ghost use Rattle.std.specs.Prelude.{◌≡◌, ℕ, ◌<◌, ◌&&◌, ◌||◌, T, ◌==◌};
-ghost use Rattle.bits.specs.Sets.{VertexSet, holds};
+ghost use Rattle.bits.specs.Sets.{holds, in_row, VertexSet};
 ghost use Rattle.graph.specs.Graphs.{state};
-ghost use Rattle.graph.specs.Table.{in_row};
 
 use bits::VertexSet;
 use graph::Graph;

@@ -1,5 +1,8 @@
-// Tests of the byte formats, on examples and on damaged inputs. They stand apart from the crates that they test, so that those are proved once only.
+// Tests of sets, and of the byte formats on examples and on damaged inputs. They stand apart from the crates that they test, so that those are proved
+// once only.
 #![tactic(auto)]
 
 #[cfg(test)]
-mod tests;
+mod formats;
+#[cfg(test)]
+mod sets;

@@ -1,25 +1,12 @@
 // Rules applied to changing graphs, and questions in between.
+use crate::made::{READ, made, question, take_cycle};
 use bits::VertexSet;
 use changing::{ChangingGraph, WORDS};
-use graph::{Graph, Refusal};
-use model::{Create, GRANT, Grant, Question, Remove, Rule, TAKE, Take};
+use graph::Refusal;
+use model::{Create, GRANT, Grant, Remove, Rule, TAKE, Take};
 use sharing::Sharing;
 use std::process::Abort;
 use std::test::Fail;
-
-const READ: u8 = 2;
-
-fn made(size: u8, acting: &[u8], rights: &[[u8; 3]]) -> Option<Graph> {
-    let mut subjects = VertexSet::empty();
-    for v in acting {
-        subjects.insert(*v);
-    }
-    let mut graph = Graph::new(size, subjects)?;
-    for right in rights {
-        graph.give(right[0], right[1], right[2]);
-    }
-    Some(graph)
-}
 
 fn take(who: u8, from: u8, right: u8, to: u8) -> Rule {
     Rule::Take(Take {
@@ -41,14 +28,6 @@ fn grant(who: u8, into: u8, right: u8, to: u8) -> Rule {
 
 fn remove(who: u8, right: u8, to: u8) -> Rule {
     Rule::Remove(Remove { who, right, to })
-}
-
-fn question(holder: u8, right: u8, target: u8) -> Question {
-    Question {
-        holder,
-        right,
-        target,
-    }
 }
 
 // Does the book answer of x as the table does?
@@ -124,22 +103,9 @@ fn a_chain_of_acts(rt: HostRuntime) -> Result<(), Fail> {
     Ok(())
 }
 
-// 0 takes from 1, 1 from 2, 2 from 0; only 3, which 2 takes from, reads 4.
 #[test]
 fn a_cycle_cut_open(rt: HostRuntime) -> Result<(), Fail> {
-    let Some(graph) = made(
-        5,
-        &[0, 1, 2],
-        &[
-            [0, TAKE, 1],
-            [1, TAKE, 2],
-            [2, TAKE, 0],
-            [2, TAKE, 3],
-            [3, READ, 4],
-        ],
-    ) else {
-        return Err(Fail::new("no graph"));
-    };
+    let graph = take_cycle().ok_or("no graph")?;
     let mut words = [7; WORDS];
     let mut book = ChangingGraph::of(graph, &mut words);
     renews(&rt, book.apply(remove(1, TAKE, 2)), &[0, 1, 2]);

@@ -3,8 +3,7 @@ use Rattle.std.proofs.Common.{◌≡◌, ℕ, zero, suc, ◌+◌, ◌<◌, ◌�
 use Rattle.std.proofs.lemmas.Bool.{cases_eq, cases_lt}
 use Rattle.std.specs.Array.{IsFromFnResult, IsFromFnResultFrom}
 use denote.Param.Members.{Mut, Called}
-use Rattle.bits.specs.Sets.{VertexSet}
-use Rattle.graph.specs.Table.{in_row}
+use Rattle.bits.specs.Sets.{in_row, VertexSet}
 use Rattle.model.proofs.Tests.{is_false, same}
 
 -- Each element is what a call answers, if calls change nothing.

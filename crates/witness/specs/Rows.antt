@@ -1,7 +1,6 @@
 -- Tables of steps from vertex to vertex.
 use Rattle.std.specs.Prelude.{◌≡◌, ℕ, ◌<◌, Bool, T, List}
-use Rattle.bits.specs.Sets.{holds, VertexSet}
-use Rattle.graph.specs.Table.{in_row}
+use Rattle.bits.specs.Sets.{holds, in_row, VertexSet}
 use Rattle.model.specs.Closure.{within}
 use Rattle.witness.specs.declared.layer.Layer.{Layer}
 

@@ -4,7 +4,7 @@ mod work;
 
 ghost use Rattle.std.specs.Prelude.{◌≡◌, ℕ};
 ghost use Rattle.graph.specs.Graphs.{state};
-ghost use Rattle.graph.specs.Table.{in_row};
+ghost use Rattle.bits.specs.Sets.{in_row};
 ghost use Rattle.model.specs.Spans.{bridge};
 ghost use Rattle.spans.specs.Of.{linked, spanned};
 ghost use Rattle.witness.specs.Beside.{near};

@@ -1,8 +1,7 @@
 // Tables of who is beside whom, and of bridges.
 ghost use Rattle.std.specs.Prelude.{◌≡◌, ℕ, ◌<◌, ◌≤◌, false, ◌&&◌};
-ghost use Rattle.bits.specs.Sets.{holds, VertexSet};
+ghost use Rattle.bits.specs.Sets.{holds, in_row, VertexSet};
 ghost use Rattle.graph.specs.Graphs.{state};
-ghost use Rattle.graph.specs.Table.{in_row};
 ghost use Rattle.model.specs.Bounded.{some_below};
 ghost use Rattle.model.specs.Spans.{bridge};
 ghost use Rattle.spans.specs.Of.{linked, spanned};

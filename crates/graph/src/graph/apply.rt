@@ -4,7 +4,6 @@ ghost use Rattle.std.specs.Result.{is_ok};
 ghost use Rattle.graph.specs.Graphs.{state, answer, entitled, gifted, grown};
 ghost use Rattle.model.specs.Rules.{applied};
 
-use super::rows::make_room;
 use super::{Graph, MOST};
 use crate::refusal::Refusal;
 use bits::has_bit;
@@ -70,7 +69,6 @@ impl Graph {
         ensures after { state self.new ≡ grown subject (state self.old) }
     {
         let new = self.size;
-        make_room(&mut self.rows, new);
         self.size = new + 1;
         if subject {
             self.subjects.insert(new);

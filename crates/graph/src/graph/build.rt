@@ -4,10 +4,10 @@ ghost use Rattle.bits.specs.Sets.{holds};
 ghost use Rattle.graph.specs.Graphs.{state, bare};
 ghost use Rattle.model.specs.Rules.{given, removed};
 
-use super::rows::{row, row_remove, width};
-use super::{Graph, WORDS};
+use super::rows::{row_for, row_remove};
+use super::{Graph, WIDTH, WORDS};
 use bits::{VertexSet, row_insert};
-use model::{RIGHTS, Right, Vertex};
+use model::{NARROW, RIGHTS, Right, Vertex};
 
 impl Graph {
     // A graph of so many vertices with these subjects, in which nobody has a right. None if there is no vertex, or a subject is not among them.
@@ -53,15 +53,24 @@ impl Graph {
         requires { (p < (state self.old).size) × ((r < 8) × (q < (state self.old).size)) }
         ensures after { state self.new ≡ given p r q (state self.old) }
     {
-        row_insert(&mut self.rows, width(self.size), row(p, r), usize::from(q));
+        row_insert(
+            &mut self.rows,
+            WIDTH,
+            row_for(p, r, q),
+            usize::from(q % NARROW),
+        );
     }
 
     pub(super) fn withdraw(&mut self, p: Vertex, r: Right, q: Vertex)
-        requires { p < (state self.old).size }
         ensures after { state self.new ≡ removed p r q (state self.old) }
     {
-        if r < RIGHTS && q < self.size {
-            row_remove(&mut self.rows, width(self.size), row(p, r), usize::from(q));
+        if r < RIGHTS {
+            row_remove(
+                &mut self.rows,
+                WIDTH,
+                row_for(p, r, q),
+                usize::from(q % NARROW),
+            );
         }
     }
 }

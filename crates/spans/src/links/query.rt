@@ -1,8 +1,7 @@
 // What links tell of the rights round a vertex.
 ghost use Rattle.std.specs.Prelude.{◌≡◌, ℕ};
-ghost use Rattle.bits.specs.Sets.{holds};
+ghost use Rattle.bits.specs.Sets.{holds, in_row};
 ghost use Rattle.graph.specs.Graphs.{state};
-ghost use Rattle.graph.specs.Table.{in_row};
 ghost use Rattle.model.specs.Spans.{can_grant, can_take};
 ghost use Rattle.spans.specs.Of.{linked};
 

@@ -1,7 +1,6 @@
 // What take paths tell: where they lead, and who spans initially or terminally to a vertex.
 ghost use Rattle.std.specs.Prelude.{◌≡◌, ℕ, ◌||◌};
-ghost use Rattle.bits.specs.Sets.{holds};
-ghost use Rattle.graph.specs.Table.{in_row};
+ghost use Rattle.bits.specs.Sets.{holds, in_row};
 ghost use Rattle.model.specs.Spans.{initial_span, terminal_span};
 ghost use Rattle.spans.specs.Of.{spanned};
 ghost use Rattle.spans.specs.Paths.{back_from, path_from};

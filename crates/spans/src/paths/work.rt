@@ -1,16 +1,15 @@
 // Take paths worked out.
 ghost use Rattle.std.specs.Prelude.{◌≡◌, ℕ, ◌*◌, ◌<◌, ◌≤◌};
 ghost use Rattle.bits.specs.Rows.{cell};
-ghost use Rattle.bits.specs.Sets.{holds};
+ghost use Rattle.bits.specs.Sets.{holds, in_row};
 ghost use Rattle.graph.specs.Graphs.{state};
-ghost use Rattle.graph.specs.Table.{in_row};
 ghost use Rattle.spans.specs.Of.{spanned};
 ghost use Rattle.spans.specs.Paths.{path_from};
 
 use super::TakePaths;
 use crate::closure::lead;
 use crate::turned::turned;
-use bits::{VertexSet, WIDE, row_set};
+use bits::{BitSet, VertexSet, WIDE};
 use graph::Graph;
 use model::{NARROW, NUMBERS};
 use std::array;
@@ -26,7 +25,7 @@ fn rows_of<const W: usize>(graph: &Graph) -> [VertexSet; NUMBERS]
         |x: usize| -> VertexSet
             requires { (x < 256) × (W ≤ 4) }
             ensures { (k : ℕ) → holds result k ≡ cell rows W x k }
-        { row_set(&rows, W, x) },
+        { BitSet::<W>::at(&rows, x).resized() },
     )
 }
 

@@ -1,7 +1,6 @@
 use Rattle.std.proofs.Common.{arith, length-set}
 use Rattle.bits.specs.Members.{left}
-use Rattle.bits.specs.Sets.{holds}
-use Rattle.graph.specs.Table.{in_row}
+use Rattle.bits.specs.Sets.{holds, in_row}
 use Rattle.spans.proofs.Entered.{entered_more}
 use Rattle.spans.proofs.turned.enter.Goals as goal
 

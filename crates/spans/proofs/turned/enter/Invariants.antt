@@ -1,7 +1,6 @@
 use Rattle.std.proofs.Common.{◌≡◌, length}
 use Rattle.bits.specs.Members.{left}
-use Rattle.bits.specs.Sets.{holds}
-use Rattle.graph.specs.Table.{in_row}
+use Rattle.bits.specs.Sets.{holds, in_row}
 use Rattle.spans.proofs.Entered.{Entered}
 use Rattle.spans.proofs.turned.enter.Given as goal
 

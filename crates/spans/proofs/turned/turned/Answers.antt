@@ -1,6 +1,6 @@
 use Rattle.std.proofs.Common.{arith}
-use Rattle.graph.specs.Table.{in_row}
-use Rattle.graph.proofs.Rows.{bare_row}
+use Rattle.bits.specs.Sets.{in_row}
+use Rattle.bits.proofs.Holds.{bare_row}
 use Rattle.spans.proofs.Entered.{turning_none, turning_more}
 use Rattle.spans.proofs.turned.turned.Goals as goal
 

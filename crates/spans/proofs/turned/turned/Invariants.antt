@@ -1,4 +1,4 @@
-use Rattle.graph.specs.Table.{in_row}
+use Rattle.bits.specs.Sets.{in_row}
 use Rattle.spans.proofs.Entered.{Turning}
 use Rattle.spans.proofs.turned.turned.Given as goal
 

@@ -1,7 +1,6 @@
 use Rattle.std.proofs.Common.{◌≤◌, sym, ◌∙◌, arith}
-use Rattle.bits.specs.Sets.{holds}
+use Rattle.bits.specs.Sets.{holds, in_row}
 use Rattle.graph.specs.Graphs.{state}
-use Rattle.graph.specs.Table.{in_row}
 use Rattle.graph.proofs.Sound.{few_vertices, only_subjects, well_formed-law}
 use Rattle.spans.specs.Of.{spanned}
 use Rattle.witness.proofs.Bridging.{beside_is, bridge_found, no_bridge}

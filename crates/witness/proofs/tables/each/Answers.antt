@@ -1,8 +1,7 @@
 use Rattle.std.proofs.Common.{get_or, refl, ap, ◌∙◌, rules, arith}
 use Rattle.std.proofs.lemmas.List.{get_or_past}
-use Rattle.bits.specs.Sets.{holds, none}
+use Rattle.bits.specs.Sets.{holds, in_row, none}
 use Rattle.bits.proofs.Holds.{holds_none}
-use Rattle.graph.specs.Table.{in_row}
 use Rattle.witness.proofs.Tabled.{made_each}
 use Rattle.witness.proofs.tables.each.Goals as goal
 

@@ -1,5 +1,5 @@
 use Rattle.std.proofs.Common.{rules}
-use Rattle.graph.specs.Table.{in_row}
+use Rattle.bits.specs.Sets.{in_row}
 use Rattle.witness.proofs.tables.gather.Goals as goal
 
 pub returns : goal.returns

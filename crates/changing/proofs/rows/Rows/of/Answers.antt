@@ -1,7 +1,7 @@
 use Rattle.std.proofs.Common.{ap, ◌∙◌, arith}
 use Rattle.bits.specs.Rows.{cell}
 use Rattle.graph.proofs.Sound.{few_vertices}
-use Rattle.spans.proofs.Wide.{cell_zeros}
+use Rattle.bits.proofs.Cell.{cell_zeros}
 use Rattle.changing.proofs.rows.Rows.of.Goals as goal
 
 pub lead-requires : goal.lead-requires

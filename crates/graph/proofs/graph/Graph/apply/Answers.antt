@@ -1,6 +1,6 @@
 use Rattle.std.proofs.Common.{refl}
 use Rattle.model.specs.declared.Rule.TheVariants.{Take, Grant, Remove}
-use Rattle.graph.proofs.Sound.{take_there, grant_there, remove_there, done}
+use Rattle.graph.proofs.Sound.{take_there, grant_there, done}
 use Rattle.graph.proofs.graph.Graph.apply.Goals as goal
 
 pub add-requires : goal.add-requires
@@ -8,9 +8,6 @@ add-requires c = take_there c.args.self.now c.args.rule c.if-not-is_entitled.ens
 
 pub add-requires-in-Grant : goal.add-requires-in-Grant
 add-requires-in-Grant c = grant_there c.args.self.now c.args.rule c.if-not-is_entitled.ensures.value c.in-Grant.g c.in-Grant.is
-
-pub withdraw-requires : goal.withdraw-requires
-withdraw-requires c = remove_there c.args.self.now c.args.rule c.if-not-is_entitled.ensures.value c.in-Remove.d c.in-Remove.is
 
 pub returns-in-Take-clause-value : goal.returns-in-Take-clause-value
 returns-in-Take-clause-value c =

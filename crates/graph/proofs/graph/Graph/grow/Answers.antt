@@ -1,10 +1,10 @@
-use Rattle.std.proofs.Common.{◌≡◌, ℕ, suc, ◌+◌, ◌<◌, Bool, List, T, eqb, ◌||◌, subst, ◌∙◌, ap₂, add-one, inl, inr, arith, rules, eqb→eq}
+use Rattle.std.proofs.Common.{◌≡◌, ℕ, suc, ◌+◌, ◌<◌, Bool, List, T, eqb, ◌||◌, refl, subst, ◌∙◌, ap₂, add-one, inl, inr, arith, rules, eqb→eq}
 use mathlib.Core.Path.{fun_ext}
 use Rattle.bits.specs.Sets.{holds}
 use Rattle.model.specs.State.{State}
 use Rattle.model.proofs.Tests.{cases}
 use Rattle.graph.specs.Graphs.{state}
-use Rattle.graph.specs.Table.{in_table, row_width, RowsFit}
+use Rattle.graph.specs.Table.{RowsFit}
 use Rattle.graph.proofs.Created.{new_subject, new_object}
 use Rattle.graph.proofs.States.{same_state}
 use Rattle.graph.proofs.graph.Graph.grow.Goals as goal
@@ -13,13 +13,9 @@ pub overflow_add-self : goal.overflow_add-self
 unfolding state
 overflow_add-self c = search rules
 
-pub make_room-requires : goal.make_room-requires
-unfolding state
-make_room-requires c = (c.requires, c.args.self.now.held)
-
 -- Rows of one vertex more.
-still_fit : (n : ℕ) (was rows : List ℕ) → RowsFit n was → ((p r q : ℕ) → in_table (row_width (n + 1)) rows p r q ≡ in_table (row_width n) was p r q) → RowsFit (n + 1) rows
-still_fit n was rows fit e p r q t = let k = fit p r q (subst T (e p r q) t) in (omega arith, omega arith)
+still_fit : (n : ℕ) (rows : List ℕ) → RowsFit n rows → RowsFit (n + 1) rows
+still_fit n rows fit p r q t = let k = fit p r q t in (omega arith, omega arith)
 
 later : (n : ℕ) (f : ℕ → Bool) → ((k : ℕ) → T (f k) → k < n) → (k : ℕ) → T (f k) → k < n + 1
 later n f h k t = let l = h k t in omega arith
@@ -36,8 +32,8 @@ invariant_of-self c =
       some = omega arith;
       few = omega arith;
       acting = with_new g.size (holds g.subjects) (holds c.insert.new.self) c.insert.ensures g.acting;
-      whole = c.make_room.ensures.room;
-      held = still_fit g.size g.rows c.make_room.new.rows g.held c.make_room.ensures.same;
+      whole = g.whole;
+      held = still_fit g.size g.rows g.held;
     }
 
 pub invariant_of-self-else-subject : goal.invariant_of-self-else-subject
@@ -49,8 +45,8 @@ invariant_of-self-else-subject c =
       some = omega arith;
       few = omega arith;
       acting = later g.size (holds g.subjects) g.acting;
-      whole = c.make_room.ensures.room;
-      held = still_fit g.size g.rows c.make_room.new.rows g.held c.make_room.ensures.same;
+      whole = g.whole;
+      held = still_fit g.size g.rows g.held;
     }
 
 one_more :
@@ -62,10 +58,10 @@ pub returns-then-subject : goal.returns-then-subject
 unfolding state
 returns-then-subject c =
     let g = c.args.self.now in
-    record { after = one_more g.size _ _ _ _ (λ k. c.insert.ensures k ∙ new_subject g.size (holds g.subjects) c.args.subject c.if-subject.true k) c.make_room.ensures.same }
+    record { after = one_more g.size _ _ _ _ (λ k. c.insert.ensures k ∙ new_subject g.size (holds g.subjects) c.args.subject c.if-subject.true k) λ x k y. refl }
 
 pub returns-else-subject : goal.returns-else-subject
 unfolding state
 returns-else-subject c =
     let g = c.args.self.now in
-    record { after = one_more g.size _ _ _ _ (new_object g.size (holds g.subjects) c.args.subject c.if-subject.false g.acting) c.make_room.ensures.same }
+    record { after = one_more g.size _ _ _ _ (new_object g.size (holds g.subjects) c.args.subject c.if-subject.false g.acting) λ x k y. refl }

@@ -8,7 +8,7 @@ use Rattle.model.proofs.Tests.{all_at, all_from, implied, implying, is_true}
 use Rattle.bits.specs.Sets.{holds, VertexSet}
 use Rattle.bits.proofs.Holds.{below_fits, holds_past}
 use Rattle.graph.specs.Graphs.{state}
-use Rattle.graph.specs.Table.{row_width, SubjectsFit}
+use Rattle.graph.specs.Table.{SubjectsFit}
 use Rattle.graph.proofs.Rows.{bare_table}
 use Rattle.graph.proofs.States.{same_state}
 use Rattle.graph.proofs.graph.Graph.new.Goals as goal
@@ -42,9 +42,9 @@ invariant_of-result c =
       few = search rules;
       acting = fit c.args.subjects c.below.result c.args.size c.is_subset.result (below_fits 4 c.args.size c.below.result (omega arith) c.below.ensures) c.is_subset.ensures c.if-not-is_subset.false;
       whole = length-replicate {A = ℕ} 8192 0;
-      held = (λ p r q t. absurd (subst T (bare_table (row_width c.args.size) 8192 p r q) t));
+      held = (λ p r q t. absurd (subst T (bare_table 8192 p r q) t));
     }
 
 pub returns : goal.returns
 unfolding state
-returns c = record { cases = same_state c.args.size (holds c.args.subjects) _ _ (λ p r q. bare_table (row_width c.args.size) 8192 p r q) }
+returns c = record { cases = same_state c.args.size (holds c.args.subjects) _ _ (λ p r q. bare_table 8192 p r q) }

@@ -1,7 +1,7 @@
 use Rattle.std.proofs.Common.{◌+◌, ◌*◌, ◌≤◌, length, sym, ap, ◌∙◌, subst, ap₂, inl, inr, arith}
 use Rattle.bits.specs.Rows.{cell}
 use Rattle.graph.specs.Table.{row_width}
-use Rattle.spans.proofs.Wide.{words_cover}
+use Rattle.graph.proofs.Rows.{width_covers}
 use Rattle.sharing.specs.Of.{answered}
 use Rattle.sharing.specs.Table.{table_words}
 use Rattle.sharing.proofs.Size.{row_there, row_says}
@@ -22,7 +22,8 @@ returns-then-holder-n c =
 pub row_contains-requires : goal.row_contains-requires
 row_contains-requires c =
     let size = c.size-n.ensures.value in
-    let cover = words_cover c.size-n.result c.width.result c.width.ensures (omega arith) in (
+    let cover = width_covers c.size-n.result (omega arith) in
+    let width = c.width.ensures in (
       subst (λ i. i * c.width.result + c.width.result ≤ length c.args.self.now.rows.now) (sym c.row.ensures)
           (row_there c.size-n.result c.width.result (length c.args.self.now.rows.now) c.args.question.target c.args.question.right c.width.ensures
           (omega (arith, c.args.self.now.fits, ap table_words size)) (omega arith) (omega arith)),

@@ -2,7 +2,7 @@ use Rattle.std.proofs.Common.{◌+◌, ◌*◌, ◌≤◌, length, sym, ap, ◌�
 use Rattle.bits.specs.Rows.{cell}
 use Rattle.model.specs.Sharing.{can_share}
 use Rattle.graph.specs.Table.{row_width}
-use Rattle.spans.proofs.Wide.{words_cover, words_most}
+use Rattle.graph.proofs.Rows.{width_covers, width_most}
 use Rattle.sharing.specs.Of.{answered}
 use Rattle.sharing.specs.Table.{table_words}
 use Rattle.sharing.proofs.Size.{row_there, row_says}
@@ -22,7 +22,7 @@ returns-then-y-n c =
 pub row_count-requires : goal.row_count-requires
 row_count-requires c =
     let size = c.size-n.ensures.value in
-    let most = words_most c.size-n.result in (
+    let most = width_most c.size-n.result in (
       subst (λ i. i * c.width.result + c.width.result ≤ length c.args.self.now.rows.now) (sym c.row.ensures)
           (row_there c.size-n.result c.width.result (length c.args.self.now.rows.now) c.args.y c.args.r c.width.ensures
           (omega (arith, c.args.self.now.fits, ap table_words size)) (omega arith) (omega arith)),
@@ -32,7 +32,8 @@ row_count-requires c =
 pub returns : goal.returns
 returns c =
     let size = c.size-n.ensures.value in
-    let cover = words_cover c.size-n.result c.width.result c.width.ensures (omega arith) in
+    let cover = width_covers c.size-n.result (omega arith) in
+    let width = c.width.ensures in
     record {
       value =
           c.row_count.ensures

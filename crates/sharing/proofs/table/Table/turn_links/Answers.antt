@@ -1,7 +1,7 @@
 use Rattle.std.proofs.Common.{◌≡◌, ℕ, ◌%◌, Bool, false, ◌&&◌, ◌||◌, leb, ltb, refl, ap, ◌∙◌, arith}
 use Rattle.std.proofs.lemmas.Bool.Decides.{nat_tests}
 use Rattle.bits.specs.Rows.{cell}
-use Rattle.spans.proofs.Wide.{cell_zeros}
+use Rattle.bits.proofs.Cell.{cell_zeros}
 use Rattle.sharing.specs.Filling.{about}
 use Rattle.sharing.specs.Table.{has_row}
 use Rattle.sharing.proofs.table.Table.turn_links.Goals as goal

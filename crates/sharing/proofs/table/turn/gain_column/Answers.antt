@@ -1,4 +1,4 @@
-use Rattle.std.proofs.Common.{◌+◌, ◌*◌, ◌<◌, ◌≤◌, length, sym, subst, arith}
+use Rattle.std.proofs.Common.{◌+◌, ◌*◌, ◌≤◌, length, sym, subst, arith}
 use Rattle.bits.proofs.Cell.{rows_apart}
 use Rattle.sharing.proofs.table.turn.gain_column.Goals as goal
 

@@ -1,6 +1,6 @@
 use Rattle.std.proofs.Common.{◌≡◌, ℕ, ap, ◌∙◌, rules, arith}
 use Rattle.graph.specs.Graphs.{state}
-use Rattle.graph.specs.Table.{in_row}
+use Rattle.bits.specs.Sets.{in_row}
 use Rattle.spans.specs.Paths.{path_from}
 use Rattle.spans.proofs.Entered.{all_below_agree}
 use Rattle.spans.proofs.Spanning.{path_below}

@@ -1,5 +1,5 @@
 use Rattle.std.proofs.Common.{ap, ◌∙◌}
-use Rattle.graph.specs.Table.{in_row}
+use Rattle.bits.specs.Sets.{in_row}
 use Rattle.spans.proofs.paths.TakePaths.to.Goals as goal
 
 pub returns : goal.returns

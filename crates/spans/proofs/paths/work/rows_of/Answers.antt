@@ -2,16 +2,15 @@ use Rattle.std.proofs.Common.{◌≡◌, ℕ, sym, ◌∙◌, ap, inl, inr, rule
 use Rattle.std.proofs.lemmas.Bool.{cases_lt}
 use Rattle.std.proofs.lemmas.List.{get_or_past}
 use Rattle.bits.specs.Rows.{cell}
-use Rattle.bits.specs.Sets.{holds, none}
+use Rattle.bits.specs.Sets.{holds, in_row, none}
 use Rattle.bits.proofs.FromFn.{each_made}
 use Rattle.bits.proofs.Holds.{holds_none}
 use Rattle.graph.specs.Graphs.{state}
-use Rattle.graph.specs.Table.{in_row}
 use Rattle.graph.proofs.Sound.{few_vertices}
 use Rattle.model.proofs.Tests.{is_false}
 use Rattle.spans.specs.Paths.{path_from}
 use Rattle.spans.proofs.Spanning.{path_below}
-use Rattle.spans.proofs.Wide.{cell_zeros}
+use Rattle.bits.proofs.Cell.{cell_zeros}
 use Rattle.spans.proofs.paths.work.rows_of.Goals as goal
 
 pub lead-requires-clause-by_index : goal.lead-requires-clause-by_index

@@ -1,6 +1,6 @@
 use Rattle.std.proofs.Common.{◌&&◌, ap, ◌∙◌}
 use mathlib.Core.Path.{fun_ext}
-use Rattle.graph.specs.Table.{in_row}
+use Rattle.bits.specs.Sets.{in_row}
 use Rattle.model.specs.Exact.{lowest}
 use Rattle.model.specs.Spans.{take_path}
 use Rattle.witness.specs.Of.{routed}

@@ -1,7 +1,6 @@
 use Rattle.std.proofs.Common.{◌≤◌, ◌&&◌, ap, ◌∙◌, arith}
 use mathlib.Core.Path.{fun_ext}
-use Rattle.bits.specs.Sets.{holds}
-use Rattle.graph.specs.Table.{in_row}
+use Rattle.bits.specs.Sets.{holds, in_row}
 use Rattle.graph.proofs.Sound.{few_vertices, well_formed-law}
 use Rattle.model.specs.Exact.{lowest}
 use Rattle.model.specs.Spans.{take_path}

@@ -1,6 +1,5 @@
 use Rattle.std.proofs.Common.{◌≡◌, sym, ◌∙◌, arith}
-use Rattle.bits.specs.Sets.{holds}
-use Rattle.graph.specs.Table.{in_row}
+use Rattle.bits.specs.Sets.{holds, in_row}
 use Rattle.model.specs.Spans.{bridge}
 use Rattle.witness.specs.Of.{routed}
 use Rattle.witness.proofs.Relation.{row_of}

@@ -1,32 +1,14 @@
-// The answers on small graphs.
-use crate::Sharing;
+// Tables of answers on small graphs.
+use crate::made::{READ, made, question, take_cycle};
 use bits::VertexSet;
 use graph::Graph;
-use model::{GRANT, Question, TAKE};
+use model::{GRANT, TAKE};
+use sharing::Sharing;
 use std::test::Fail;
-
-const READ: u8 = 2;
-
-fn made(size: u8, acting: &[u8], rights: &[[u8; 3]]) -> Option<Graph> {
-    let mut subjects = VertexSet::empty();
-    for v in acting {
-        subjects.insert(*v);
-    }
-    let mut graph = Graph::new(size, subjects)?;
-    for right in rights {
-        graph.give(right[0], right[1], right[2]);
-    }
-    Some(graph)
-}
 
 // Can x come to have r to y? None if the words are too few.
 fn asked(graph: &Graph, rows: &mut [u64], x: u8, r: u8, y: u8) -> Option<bool> {
-    let question = Question {
-        holder: x,
-        right: r,
-        target: y,
-    };
-    Sharing::of(graph, rows).map(|table| table.can_share(question))
+    Sharing::of(graph, rows).map(|table| table.can_share(question(x, r, y)))
 }
 
 fn counted(graph: &Graph, rows: &mut [u64], r: u8, y: u8) -> usize {
@@ -100,22 +82,9 @@ fn one_vertex(rt: HostRuntime) -> Result<(), Fail> {
     Ok(())
 }
 
-// 0 takes from 1, 1 from 2, 2 from 0, and only the object 3, which 2 takes from, reads 4.
 #[test]
 fn a_take_cycle(rt: HostRuntime) -> Result<(), Fail> {
-    let Some(graph) = made(
-        5,
-        &[0, 1, 2],
-        &[
-            [0, TAKE, 1],
-            [1, TAKE, 2],
-            [2, TAKE, 0],
-            [2, TAKE, 3],
-            [3, READ, 4],
-        ],
-    ) else {
-        return Err(Fail::new("no graph"));
-    };
+    let graph = take_cycle().ok_or("no graph")?;
     let mut rows = [0; 80];
     assert_eq!(rt; asked(&graph, &mut rows, 0, READ, 4), Some(true));
     assert_eq!(rt; asked(&graph, &mut rows, 4, READ, 4), Some(false));
