@@ -19,12 +19,12 @@ unfoldable pub members_below : ℕ → (ℕ → Bool) → List ℕ
 members_below zero f = []
 members_below (suc n) f = members_below n f ++ cond (f n) (n ∷ []) []
 
-none_below : (n : ℕ) (f : ℕ → Bool) → ((k : ℕ) → k < n → f k ≡ false) → members_below n f ≡ []
+pub none_below : (n : ℕ) (f : ℕ → Bool) → ((k : ℕ) → k < n → f k ≡ false) → members_below n f ≡ []
 unfolding members_below
 none_below zero f h = refl
 none_below (suc n) f h = ap₂ (λ xs b. xs ++ cond b (n ∷ []) []) (none_below n f (λ k l. h k (omega arith))) (h n (omega arith))
 
-lowest_first : (n : ℕ) (f g : ℕ → Bool) (v : ℕ) → v < n → f v ≡ true → ((k : ℕ) → k < v → f k ≡ false) → Without v f g → members_below n f ≡ v ∷ members_below n g
+pub lowest_first : (n : ℕ) (f g : ℕ → Bool) (v : ℕ) → v < n → f v ≡ true → ((k : ℕ) → k < v → f k ≡ false) → Without v f g → members_below n f ≡ v ∷ members_below n g
 unfolding members_below
 lowest_first zero f g v h t none w = absurd (omega arith)
 lowest_first (suc n) f g v h t none w =

@@ -12,8 +12,8 @@ mod words;
 pub use block::transpose;
 pub use members::Members;
 pub use rows::{
-    row_add, row_clear, row_contains, row_count, row_insert, row_is_subset, row_put, row_union,
-    row_word,
+    row_add, row_clear, row_contains, row_count, row_insert, row_is_subset, row_put, row_set,
+    row_union, row_word,
 };
 pub use select::{those, united};
 pub use set::{BitSet, VertexSet, WIDE};

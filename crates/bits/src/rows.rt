@@ -103,6 +103,14 @@ fn add_words(rows: &mut [u64], w: usize, x: usize, words: &[u64])
     unite(&mut rows[x * w..x * w + w], words);
 }
 
+// What row x has, as a set of vertices: `BitSet::at` where the width is known only when the program runs.
+pub fn row_set(rows: &[u64], w: usize, x: usize) -> VertexSet
+    requires { (x * w + w ≤ length rows.now) × (w ≤ 4) }
+    ensures { (k : ℕ) → holds result k ≡ cell rows.now w x k }
+{
+    BitSet::of(words::resized(row(rows, w, x)))
+}
+
 // Adds to row x what the set has, of whatever width the row is; what is past its end is left out. So `add_to` is for a set as wide as the row.
 pub fn row_add(rows: &mut [u64], w: usize, x: usize, set: &VertexSet)
     requires { (x * w + w ≤ length rows.old) × (w ≤ 4) }

@@ -1,12 +1,12 @@
 // Books written as bytes.
-ghost use Rattle.std.specs.Prelude.{◌≡◌, ℕ, ◌+◌, ◌*◌, ◌/◌, ◌%◌, ◌<◌, ◌≤◌, List, [], ◌∷◌, ◌++◌, length, IfOk, Ok};
+ghost use Rattle.std.specs.Prelude.{◌≡◌, ℕ, ◌+◌, ◌*◌, ◌/◌, ◌%◌, ◌<◌, ◌≤◌, List, [], ◌∷◌, ◌++◌, length, IfOk, Ok, OnOk};
 ghost use Rattle.bits.specs.Sets.{holds};
 ghost use Rattle.codec.specs.Books.{book_at};
 ghost use Rattle.codec.specs.Writing.{book_bytes, head_bytes, vertex_bytes, held_bytes, count_held, row_bytes, Appended};
 ghost use Rattle.graph.specs.Graphs.{state};
 
 use crate::kind::Kind;
-use bits::VertexSet;
+use bits::{VertexSet, WIDE, pop_bit};
 use graph::Graph;
 use model::{NARROW, RIGHTS, Right, Vertex};
 use std::alloc::{AllocError, Global};
@@ -78,12 +78,24 @@ fn write_held(graph: &Graph, p: Vertex, out: &mut Vec<u8>) -> Result<(), AllocEr
     Ok(())
 }
 
-// One right to each of these vertices.
+// One right to each of these vertices: word by word, since a walk through the members of the whole set made a full book take half as long again to write.
 fn write_row(targets: &VertexSet, r: Right, out: &mut Vec<u8>) -> Result<(), AllocError>
     ensures { Appended result out.old.items out.new.items (row_bytes r (holds targets.now) 256) }
 {
-    for q in targets.iter() {
-        write(&[r, q], out)?;
+    for c in 0..WIDE {
+        write_word(targets, c, r, out)?;
+    }
+    Ok(())
+}
+
+// Goes on with those that word c has: what was written up to number 64 c is then written up to 64 c + 64.
+fn write_word(targets: &VertexSet, c: usize, r: Right, out: &mut Vec<u8>) -> Result<(), AllocError>
+    requires { c < 4 }
+    ensures { OnOk result ((before : List ℕ) → out.old.items ≡ before ++ row_bytes r (holds targets.now) (64 * c) → out.new.items ≡ before ++ row_bytes r (holds targets.now) (64 * c + 64)) }
+{
+    let mut rest = targets.word(c);
+    while let Some(b) = pop_bit(&mut rest) {
+        write(&[r, (64 * c + b as usize) as u8], out)?;
     }
     Ok(())
 }

@@ -19,7 +19,7 @@ pub type Vertex = u8;
 // How many numbers a vertex can have.
 pub const NUMBERS: usize = 256;
 
-// The most vertices of a narrow graph: a set of them has room in two words, a book of it has the narrow layout, and questions are asked of no other.
+// The most vertices of a narrow graph: questions are asked of no other.
 pub const NARROW: u8 = 128;
 
 // The number of a right. 0 is to take, 1 is to grant; the others mean nothing to the model.

@@ -1,12 +1,17 @@
 -- Tables of steps from vertex to vertex.
-use Rattle.std.specs.Prelude.{◌≡◌, ℕ, ◌<◌, Bool, T, List}
+use Rattle.std.specs.Prelude.{◌≡◌, ℕ, ◌<◌, Bool, T, List, take}
 use Rattle.bits.specs.Sets.{holds, in_row, VertexSet}
 use Rattle.model.specs.Closure.{within}
 use Rattle.witness.specs.declared.layer.Layer.{Layer}
+use Rattle.witness.specs.declared.row.Row.{Row}
 
 -- Steps are only between vertices.
 abbrev pub Fits : ℕ → List VertexSet → Type 0
 Fits n table = (x z : ℕ) → T (in_row table x z) → (x < n) × (z < n)
+
+-- The vertices behind the first one of a row.
+abbrev pub row_vertices : Row → List ℕ
+row_vertices r = take r.len r.vertices
 
 -- The steps of a table that was turned round.
 abbrev pub turned : List VertexSet → ℕ → ℕ → Bool

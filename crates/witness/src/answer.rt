@@ -40,6 +40,10 @@ fn write_head(acts: usize, out: &mut [u8]) -> Result<usize, Halt>
 pub fn write_witness(graph: &Graph, question: Question, out: &mut [u8]) -> Result<usize, Halt>
     ensures value { Answered (state graph.now) (witness_of (state graph.now) question) result out.old out.new }
 {
+    // Told before anything is searched for.
+    if out.len() < HEAD {
+        return Err(Halt::NoSpace);
+    }
     if graph.has(question.holder, question.right, question.target) {
         return write_head(0, out);
     }

@@ -1,20 +1,48 @@
 // The shortest row of steps from one vertex to another, of equals the first in lexicographic order.
-ghost use Rattle.std.specs.Prelude.{◌≡◌, ℕ, ◌+◌, ◌<◌, ◌≤◌, false, [], ◌++◌};
-ghost use Rattle.arrayvec.specs.ArrayVec.{array_vec_len};
+ghost use Rattle.std.specs.Prelude.{◌≡◌, ℕ, ◌+◌, ◌<◌, ◌≤◌, false, [], ◌∷◌, ◌++◌};
 ghost use Rattle.bits.specs.Sets.{holds, VertexSet};
 ghost use Rattle.model.specs.Closure.{within};
 ghost use Rattle.model.specs.Exact.{first_row, shortest_row_of};
-ghost use Rattle.witness.specs.Rows.{IsLayer, turned};
+ghost use Rattle.witness.specs.Rows.{IsLayer, row_vertices, turned};
 
 use crate::choose::lowest_of;
 use crate::layer::Layer;
 use crate::steps::Steps;
-use arrayvec::ArrayVec;
 use bits::VertexSet;
 use model::{NUMBERS, Vertex};
 
-// The vertices behind the first one of a row.
-pub type Row = ArrayVec<Vertex, NUMBERS>;
+// The vertices behind the first one of a row. An array with its length, and no `ArrayVec`: that of the kit can't be copied, and a row can.
+#[derive(Clone, Copy)]
+pub struct Row {
+    vertices: [Vertex; NUMBERS],
+    len: u8,
+}
+
+impl Row {
+    fn new() -> Row
+        ensures { result.len ≡ 0 }
+    {
+        Row {
+            vertices: [0; NUMBERS],
+            len: 0,
+        }
+    }
+
+    fn push(&mut self, v: Vertex)
+        requires { self.old.len < 255 }
+        ensures items { row_vertices self.new ≡ row_vertices self.old ++ v ∷ [] }
+        ensures more { self.new.len ≡ self.old.len + 1 }
+    {
+        self.vertices[usize::from(self.len)] = v;
+        self.len += 1;
+    }
+
+    pub fn vertices(&self) -> &[Vertex]
+        ensures { result.now ≡ row_vertices self.now }
+    {
+        &self.vertices[..usize::from(self.len)]
+    }
+}
 
 // A search for the shortest row from x to y, layer by layer round y.
 #[derive(Clone, Copy)]
@@ -38,9 +66,9 @@ impl Search<'_> {
         requires ahead { (p : ℕ) (set : VertexSet) → p < 256 → F.post ahead.now p set → (z : ℕ) → holds set z ≡ turned self.now.steps.back.now p z }
         requires layer { (k ≤ self.now.steps.size) × IsLayer self.now.steps.size self.now.steps.back.now self.now.y k layer.now }
         requires missed { (j : ℕ) → j < k → within j self.now.steps.size (turned self.now.steps.back.now) self.now.x self.now.y ≡ false }
-        requires empty { row.old.items ≡ [] }
-        ensures few { array_vec_len row.new + k ≤ self.now.steps.size }
-        ensures walked { row.new.items ++ first_row k self.now.steps.size (turned self.now.steps.back.now) result self.now.y ≡ shortest_row_of self.now.steps.size (turned self.now.steps.back.now) self.now.x self.now.y }
+        requires empty { row.old.len ≡ 0 }
+        ensures few { row.new.len + k ≤ self.now.steps.size }
+        ensures walked { row_vertices row.new ++ first_row k self.now.steps.size (turned self.now.steps.back.now) result self.now.y ≡ shortest_row_of self.now.steps.size (turned self.now.steps.back.now) self.now.x self.now.y }
     {
         if k == self.steps.size || layer.near.contains(self.x) {
             return self.x;
@@ -61,7 +89,7 @@ pub fn shortest_row<F: Fn(Vertex) -> VertexSet>(
 ) -> Row
     requires callable { F.IsAlwaysCallable ahead }
     requires ahead { (p : ℕ) (set : VertexSet) → p < 256 → F.post ahead p set → (z : ℕ) → holds set z ≡ turned steps.now.back.now p z }
-    ensures { result.items ≡ shortest_row_of steps.now.size (turned steps.now.back.now) x y }
+    ensures { row_vertices result ≡ shortest_row_of steps.now.size (turned steps.now.back.now) x y }
 {
     let search = Search {
         steps: *steps,

@@ -52,7 +52,7 @@ impl Plan<'_> {
         };
         self.take_to(ends.last, ends.holder, held, out)?;
         let row = self.routes.row(ends.last, ends.first);
-        self.over_row(ends.last, &row, held, out)?;
+        self.over_row(ends.last, row.vertices(), held, out)?;
         self.hand_to(ends.first, question.holder, held, out)
     }
 }

@@ -46,7 +46,7 @@ impl Plan<'_> {
             return self.take_unless_held(p, p, held, out);
         }
         let path = self.routes.path(p, y);
-        self.take_along(p, &path, held, out)
+        self.take_along(p, path.vertices(), held, out)
     }
 
     // `p`, who has what is `held`, takes its path to `u`, for the right to grant to `into`, and grants it.

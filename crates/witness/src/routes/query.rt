@@ -3,7 +3,7 @@ ghost use Rattle.bits.specs.Sets.{holds};
 ghost use Rattle.model.specs.Exact.{far_end, last_holder, lowest, near_end, shortest_path, shortest_row_of};
 ghost use Rattle.model.specs.Spans.{bridge, can_grant, connected, initial_span, take_path, terminal_span};
 ghost use Rattle.witness.specs.Of.{routed};
-ghost use Rattle.witness.specs.Rows.{turned};
+ghost use Rattle.witness.specs.Rows.{row_vertices, turned};
 ghost use Rattle.std.specs.Prelude.{◌≡◌, ℕ, ◌&&◌};
 
 use super::Routes;
@@ -18,7 +18,7 @@ use model::{GRANT, TAKE, Vertex};
 impl Routes<'_> {
     // The shortest take path from x to y.
     pub fn path(&self, x: Vertex, y: Vertex) -> Row
-        ensures value { result.items ≡ shortest_path (routed self.now) x y }
+        ensures value { row_vertices result ≡ shortest_path (routed self.now) x y }
     {
         let steps = Steps::of(self.links.takers_of_each(), self.graph.size());
         shortest_row(|p| self.graph.targets(p, TAKE), &steps, x, y)
@@ -34,7 +34,7 @@ impl Routes<'_> {
 
     // The shortest row of bridges from p to q.
     pub fn row(&self, p: Vertex, q: Vertex) -> Row
-        ensures value { result.items ≡ shortest_row_of (routed self.now).size (bridge (routed self.now)) p q }
+        ensures value { row_vertices result ≡ shortest_row_of (routed self.now).size (bridge (routed self.now)) p q }
     {
         shortest_row(|v| self.bridges[v as usize], &self.over_bridges(), p, q)
     }

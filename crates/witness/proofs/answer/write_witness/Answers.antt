@@ -1,14 +1,17 @@
-use Rattle.std.proofs.Common.{List, sym, ap, ◌∙◌, subst}
+use Rattle.std.proofs.Common.{List, sym, ap, ◌∙◌, subst, arith}
 use Rattle.graph.specs.Graphs.{state}
 use Rattle.graph.proofs.Sound.{well_formed-law}
 use Rattle.model.specs.Sharing.{can_get}
 use Rattle.model.specs.State.{State}
 use Rattle.model.specs.declared.Rule.{Rule}
 use Rattle.witness.specs.Answers.{Answered, witness_of}
-use Rattle.witness.proofs.Exactly.{none_answered, none_needed}
+use Rattle.witness.proofs.Exactly.{none_answered, none_needed, yes_length}
 use Rattle.witness.proofs.Performed.{performed_all}
 use Rattle.witness.proofs.Unshared.{never_performed}
 use Rattle.witness.proofs.answer.write_witness.Goals as goal
+
+pub returns-then-out-lt-HEAD : goal.returns-then-out-lt-HEAD
+returns-then-out-lt-HEAD c = record { value = λ l. omega (arith, yes_length (witness_of (state c.args.graph.now) c.args.question)) }
 
 pub returns-then-has : goal.returns-then-has
 returns-then-has c =

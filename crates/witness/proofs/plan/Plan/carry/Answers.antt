@@ -26,10 +26,10 @@ returns-in_err-over_row c =
       goes = λ b w was at.
           let mid = c.in_ok-take_to.ensures.goes b w was at in
           let w1 = taking_to b e.last e.holder q.right q.target w in
-          let w2 = over_row b e.last c.deref.result.now q.right q.target w1 in
+          let w2 = over_row b e.last c.vertices.result.now q.right q.target w1 in
           stopped _ b _ c.from_residual-in_err-over_row.result _ was _ c.from_residual-in_err-over_row.ensures.1
           (subst (λ (row : List ℕ). Halted c.in_err-over_row.field-0.0 b (length was) (handed_to b e.first q.holder q.right q.target (over_row b e.last row q.right q.target w1)))
-          (c.deref.ensures.0 ∙ c.row-row.ensures.value ∙ ap (λ (z : State). shortest_row_of z.size (bridge z) e.last e.first) mid.about)
+          (c.vertices.ensures ∙ c.row-row.ensures.value ∙ ap (λ (z : State). shortest_row_of z.size (bridge z) e.last e.first) mid.about)
           (halted_on _ b (length was) w2 _ (grows_handed b w2 w2 e.first q.holder q.right q.target (grows_not w2))
           (c.in_err-over_row.ensures.goes b w1 was mid)));
     }
@@ -43,7 +43,7 @@ returns c =
           let mid = c.in_ok-take_to.ensures.goes b w was at in
           let w1 = taking_to b e.last e.holder q.right q.target w in
           subst (λ (row : List ℕ). Goes b (handed_to b e.first q.holder q.right q.target (over_row b e.last row q.right q.target w1)) c.hand_to.result c.hand_to.new.self was c.hand_to.new.out)
-          (c.deref.ensures.0 ∙ c.row-row.ensures.value ∙ ap (λ (z : State). shortest_row_of z.size (bridge z) e.last e.first) mid.about)
+          (c.vertices.ensures ∙ c.row-row.ensures.value ∙ ap (λ (z : State). shortest_row_of z.size (bridge z) e.last e.first) mid.about)
           (c.hand_to.ensures.goes b _ was
           (c.in_ok-over_row.ensures.goes b w1 was mid));
     }

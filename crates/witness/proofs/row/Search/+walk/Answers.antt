@@ -1,4 +1,4 @@
-use Rattle.std.proofs.Common.{ℕ, ◌&&◌, ◌++◌, List, sym, ap, ◌∙◌, ap₂, arith}
+use Rattle.std.proofs.Common.{ℕ, ◌&&◌, ◌++◌, List, take, sym, ap, ◌∙◌, ap₂, arith}
 use Rattle.model.specs.Exact.{first_row}
 use Rattle.model.proofs.ExactChoices.{lowest_same}
 use Rattle.witness.specs.Rows.{turned}
@@ -12,7 +12,7 @@ returns-then-k-self-clause-walked g t c =
     let n = s.steps.size in
     let e = turned s.steps.back.now in
     let layer = c.requires.layer.1 in
-    ap (λ (row : List ℕ). row ++ first_row c.args.k n e s.x s.y) c.requires.empty
+    ap (λ m. take m c.args.row.now.vertices ++ first_row c.args.k n e s.x s.y) c.requires.empty
     ∙ sym (elim c.then-k-self.branch [
       | then-k-self-via-then-k-self w ↦ nowhere n e s.x s.y c.args.k c.requires.missed (omega arith)
       | then-k-self-via-else-k-self+then-contains w ↦
