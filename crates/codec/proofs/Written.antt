@@ -42,17 +42,19 @@ unfolding count_held
 few_held s p zero = omega arith
 few_held s p (suc k) = omega (arith, few_held s p k, count_le s.size (s.has p k))
 
--- A row, word by word: the rights to those of the 64 vertices from 64 * c on that word c has.
-abbrev pub word_bytes : ℕ → ℕ → (ℕ → Bool) → List ℕ
-word_bytes r c f = flat_map (λ j. r ∷ (64 * c + j) ∷ []) (members_below 64 f)
+-- A row, word by word: the rights to those of the n vertices from 64 * c on that are in f, which counts them from there.
+abbrev pub word_bytes : ℕ → ℕ → ℕ → (ℕ → Bool) → List ℕ
+word_bytes r c n f = flat_map (λ j. r ∷ (64 * c + j) ∷ []) (members_below n f)
 
-pub row_word : (r c n : ℕ) (f g : ℕ → Bool) → ((j : ℕ) → j < n → g j ≡ f (64 * c + j)) → row_bytes r f (64 * c) ++ flat_map (λ j. r ∷ (64 * c + j) ∷ []) (members_below n g) ≡ row_bytes r f (64 * c + n)
+pub row_word : (r c n : ℕ) (f g : ℕ → Bool) → ((j : ℕ) → j < n → g j ≡ f (64 * c + j)) → row_bytes r f (64 * c) ++ word_bytes r c n g ≡ row_bytes r f (64 * c + n)
 unfolding members_below row_bytes
 row_word r c zero f g e = append-nil (row_bytes r f (64 * c)) ∙ ap (row_bytes r f) (let same : 64 * c ≡ 64 * c + 0 = omega arith in same)
 row_word r c (suc n) f g e =
-    ap (λ t. row_bytes r f (64 * c) ++ t) (flat_map-append (λ j. r ∷ (64 * c + j) ∷ []) (members_below n g) (cond (g n) (n ∷ []) []))
-    ∙ sym (append_assoc (row_bytes r f (64 * c)) (flat_map (λ j. r ∷ (64 * c + j) ∷ []) (members_below n g)) (flat_map (λ j. r ∷ (64 * c + j) ∷ []) (cond (g n) (n ∷ []) [])))
-    ∙ ap₂ (λ a b. a ++ b) (row_word r c n f g (λ j h. e j (omega arith))) (one (g n) ∙ ap (λ b. cond b (r ∷ (64 * c + n) ∷ []) []) (e n (omega arith)))
+    let row = row_bytes r f (64 * c) in
+    let pair = λ (j : ℕ). r ∷ (64 * c + j) ∷ [] in
+    ap (λ t. row ++ t) (flat_map-append pair (members_below n g) (cond (g n) (n ∷ []) []))
+    ∙ sym (append_assoc row (word_bytes r c n g) (flat_map pair (cond (g n) (n ∷ []) [])))
+    ∙ ap₂ (λ a b. a ++ b) (row_word r c n f g (λ j h. e j (omega arith))) (one (g n) ∙ ap (λ b. cond b (pair n) []) (e n (omega arith)))
     ∙ ap (row_bytes r f) (let next : suc (64 * c + n) ≡ 64 * c + suc n = omega arith in next)
   where
     one : (b : Bool) → flat_map (λ j. r ∷ (64 * c + j) ∷ []) (cond b (n ∷ []) []) ≡ cond b (r ∷ (64 * c + n) ∷ []) []

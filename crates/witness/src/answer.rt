@@ -1,5 +1,5 @@
 // The answer yes as bytes: its kind, how many acts its plan has, and the acts.
-ghost use Rattle.std.specs.Prelude.{◌≡◌, false};
+ghost use Rattle.std.specs.Prelude.{◌≡◌, ◌≤◌, false, length};
 ghost use Rattle.graph.specs.Graphs.{state};
 ghost use Rattle.witness.specs.Answers.{Answered, AnsweredAs, head_bytes, longest_answer_len, witness_of};
 ghost use Rattle.witness.specs.Ends.{Exact};
@@ -82,11 +82,9 @@ impl Routes<'_> {
     fn write_plan(&self, ends: Ends, question: Question, out: &mut [u8]) -> Result<usize, Halt>
         requires lacks { false ≡ (routed self.now).has question.holder question.right question.target }
         requires exact { Exact (routed self.now) question ends }
+        requires room { 5 ≤ length out.old }
         ensures { Answered (routed self.now) (witness_of (routed self.now) question) result out.old out.new }
     {
-        if out.len() < HEAD {
-            return Err(Halt::NoSpace);
-        }
         let mut plan = Plan::of(self);
         plan.carry(ends, question, &mut out[HEAD..])?;
         let head = write_head(plan.acts, out)?;

@@ -13,8 +13,8 @@ loop-b-preserved c =
     let low = c.in-Some.ensures.lowest in
     let pair = λ (j : ℕ). c.args.r ∷ (64 * c.args.c + j) ∷ [] in
     let first = lowest_first 64 (bit c.loop-b.rest) (bit c.pop_bit.new.word) c.in-Some.b c.in-Some.ensures.bound low.0 low.1 low.2 in
-    ap (λ t. t ++ word_bytes c.args.r c.args.c (bit c.pop_bit.new.word)) c.in_ok-write.ensures
-    ∙ append_assoc (vec_items c.loop-b.out) (pair c.in-Some.b) (word_bytes c.args.r c.args.c (bit c.pop_bit.new.word))
+    ap (λ t. t ++ word_bytes c.args.r c.args.c 64 (bit c.pop_bit.new.word)) c.in_ok-write.ensures
+    ∙ append_assoc (vec_items c.loop-b.out) (pair c.in-Some.b) (word_bytes c.args.r c.args.c 64 (bit c.pop_bit.new.word))
     ∙ ap (λ t. vec_items c.loop-b.out ++ flat_map pair t) (sym first)
     ∙ c.loop-b.invariant
 
@@ -31,6 +31,6 @@ returns c before e =
     sym (append-nil (vec_items c.loop-b.out))
     ∙ ap (λ t. vec_items c.loop-b.out ++ flat_map pair t) (sym none)
     ∙ c.loop-b.invariant
-    ∙ ap (λ t. t ++ word_bytes c.args.r c.args.c word) e
-    ∙ append_assoc before (row_bytes c.args.r (holds c.args.targets.now) (64 * c.args.c)) (word_bytes c.args.r c.args.c word)
+    ∙ ap (λ t. t ++ word_bytes c.args.r c.args.c 64 word) e
+    ∙ append_assoc before (row_bytes c.args.r (holds c.args.targets.now) (64 * c.args.c)) (word_bytes c.args.r c.args.c 64 word)
     ∙ ap (λ t. before ++ t) (row_word c.args.r c.args.c 64 (holds c.args.targets.now) word (λ j h. c.word-rest.ensures j h))

@@ -10,9 +10,6 @@ use Rattle.witness.proofs.Exactly.{answered, begun, free_length, given_up, witne
 use Rattle.witness.proofs.Performed.{performed_all, performed_applicable}
 use Rattle.witness.proofs.routes.Routes.write_plan.Goals as goal
 
-pub returns-then-out-lt-HEAD : goal.returns-then-out-lt-HEAD
-returns-then-out-lt-HEAD c = λ l. omega (arith, yes_length (witness_of (routed c.args.self.now) c.args.question))
-
 pub returns-in_err-carry : goal.returns-in_err-carry
 returns-in_err-carry c =
     let b = routed c.args.self.now in
